@@ -1,0 +1,11 @@
+pub mod Derivatives
+pub mod Once
+pub mod Spans
+pub mod Classes
+pub mod LL1
+pub mod Pieces
+pub mod Terms
+pub mod Unique
+pub mod Residue
+pub mod Runs
+pub mod Halting

@@ -1,0 +1,2 @@
+// The line grammar of N-Triples, and its classes of bytes.
+pub mod class;
