@@ -9,3 +9,10 @@ pub mod Unique
 pub mod Residue
 pub mod Runs
 pub mod Halting
+pub mod Steps
+pub mod Moves
+pub mod Slices
+pub mod Builds
+pub mod Whole
+pub mod Lines
+pub mod Recognise

@@ -68,12 +68,20 @@ BLANK-NODE-LABEL = byte 95 then byte 58 then one labelChar then many (one labelC
 abbrev pub STRING-LITERAL-QUOTE : Extent → Expr
 STRING-LITERAL-QUOTE x = byte 34 then many (one stringChar or ECHAR or UCHAR x) then byte 34
 
-abbrev pub LANGTAG : Expr
-LANGTAG = byte 64 then one letter then many (one letter) then many (byte 45 then one alnum then many (one alnum))
+-- a part of a language tag after its letters
+abbrev pub subtag : Expr
+subtag = byte 45 then one alnum then many (one alnum)
 
--- what may follow the string of a literal: nothing, a language tag, or ^^ and a datatype
+abbrev pub LANGTAG : Expr
+LANGTAG = byte 64 then one letter then many (one letter) then many subtag
+
+-- ^^ and the datatype of a literal
+abbrev pub datatype : Extent → Expr
+datatype x = byte 94 then byte 94 then IRIREF x
+
+-- what may follow the string of a literal
 abbrev pub suffix : Extent → Expr
-suffix x = empty or LANGTAG or byte 94 then byte 94 then IRIREF x
+suffix x = empty or LANGTAG or datatype x
 
 abbrev pub literal : Extent → Expr
 literal x = STRING-LITERAL-QUOTE x then suffix x

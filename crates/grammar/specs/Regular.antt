@@ -43,6 +43,10 @@ Spells (a then b) u = (s : List ℕ) × (t : List ℕ) × (u ≡ s ++ t) × Spel
 Spells (a or b) u = Spells a u ⊎ Spells b u
 Spells (many a) u = Star (Spells a) u
 
+-- the same under a name that stays shut
+pub record Is (e : Expr) (u : List ℕ) : Type 0 where
+  pub spelled : Spells e u
+
 -- p begins some string that the expression spells
 abbrev pub Begins : Expr → List ℕ → Type 0
 Begins e p = (q : List ℕ) × Spells e (p ++ q)

@@ -4,10 +4,10 @@ use mathlib.Core.Bool.{Bool, true, false, cond}
 use mathlib.Core.List.{List, [], _∷_}
 use mathlib.Core.Path.{_≡_}
 use mathlib.Core.Logic.{_⊎_}
-use Prim.Native.Nat.{ℕ, _+_, _<_, _≤_}
-use lib.ListN.{length, getD, take}
+use Prim.Native.Nat.{ℕ, _+_, _-_, _<_, _≤_}
+use lib.ListN.{length, getD, take, drop}
 use lib.Dec.{eqb, leb}
-use Rattle.grammar.specs.Regular.{inside}
+use Rattle.grammar.specs.Regular.{Range, inside}
 use Rattle.grammar.specs.Productions.{blank, letter, alnum, labelChar, iriChar, stringChar, escapeLetter, commentChar}
 
 -- what is to come after a term
@@ -196,3 +196,14 @@ pub record Ended (s : State) (bs : List ℕ) (k : ℕ) (n : Next) : Type 0 where
 -- after the first k bytes a part of a language tag has ended
 abbrev pub Tagged : State → List ℕ → ℕ → Type 0
 Tagged s bs k = (Stands s bs k tag × (k < length bs → inside letter (getD bs k 0) ≡ false)) ⊎ (Stands s bs k sub × (k < length bs → inside alnum (getD bs k 0) ≡ false))
+
+-- the bytes of bs from a up to b
+abbrev pub piece : List ℕ → ℕ → ℕ → List ℕ
+piece bs a b = take (b - a) (drop a bs)
+
+-- the bytes of the class that stand in bs from the offset from on go up to e
+pub record Run-to (rs : List Range) (bs : List ℕ) (from e : ℕ) : Type 0 where
+  pub forward : from ≤ e
+  pub within : e ≤ length bs
+  pub all : (k : ℕ) → from ≤ k → k < e → inside rs (getD bs k 0) ≡ true
+  pub past : e < length bs → inside rs (getD bs e 0) ≡ false

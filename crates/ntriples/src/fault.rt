@@ -1,0 +1,34 @@
+// Why a line cannot be read, and where.
+ghost use mathlib.Core.Path.{_≡_};
+ghost use Rattle.ntriples.specs.Answers.{number};
+
+// What stands at the first place where a line cannot go on.
+#[derive(Clone, Copy, Debug, PartialEq, Eq)]
+pub enum FaultKind {
+    // a byte above 127
+    HighByte,
+    // the letter of `\u` or `\U`
+    UnicodeEscape,
+    // any other byte, or the line's end
+    Unexpected,
+}
+
+impl FaultKind {
+    // The refusal number.
+    pub fn number(self) -> u8
+        ensures { λ r. ⌜ r ≡ number self ⌝ }
+    {
+        match self {
+            FaultKind::HighByte => 1,
+            FaultKind::UnicodeEscape => 2,
+            FaultKind::Unexpected => 3,
+        }
+    }
+}
+
+// The kind, and the offset of the place.
+#[derive(Clone, Copy, Debug, PartialEq, Eq)]
+pub struct Fault {
+    pub kind: FaultKind,
+    pub offset: usize,
+}

@@ -1,0 +1,10 @@
+pub mod Delimited
+pub mod Meanings
+pub mod Bodies
+pub mod Literals
+pub mod Tokens
+pub mod Spellings
+pub mod Laws
+pub mod Pieces
+pub mod Words
+pub mod Turns
