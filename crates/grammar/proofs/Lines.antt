@@ -1,9 +1,13 @@
 -- The line of a document at an offset, from where it ends. Assumes nothing.
 use mathlib.Core.Path.{_≡_, refl, sym, ap, subst, _∙_}
+use mathlib.Core.Bool.{Bool, true, false}
 use mathlib.Core.List.{List, [], _∷_, _++_, append-nil}
 use Prim.Native.Nat.{ℕ, zero, suc, _+_, _-_, _<_, _≤_}
 use native.Mathlib.Omega.{arith}
 use lib.ListN.{length, getD, take, drop, take-append-drop}
+use lib.Dec.{leb}
+use Rattle.std.specs.Orderings.{When}
+use Rattle.std.proofs.shelf.Tests.{leb-true, leb-false}
 use Rattle.std.proofs.shelf.Lists.{drop-more, drop-drop, drop-all, length-drop}
 use Rattle.grammar.specs.Readings.{Reading, Reads}
 use Rattle.grammar.specs.Documents.{Ends-line, Unbroken, Ending, by, at-end, Cut, Line-at}
@@ -28,6 +32,10 @@ module _ (text : List ℕ) where
   -- where a document has ended, it has no line
   pub no-line : (from : ℕ) (r : Reading) (n : ℕ) → length text ≤ from → Line-at text from r n → ⊥
   no-line from r n h l = l .cut .some (drop-all from text h)
+
+  pub over-or-not : (from : ℕ) (b : Bool) → leb (length text) from ≡ b → When b ((length text ≤ from) × ((r : Reading) (n : ℕ) → Line-at text from r n → ⊥)) (from < length text)
+  over-or-not from true e = let h = leb-true (length text) from e in (h, λ r n l. no-line from r n h l)
+  over-or-not from false e = leb-false (length text) from e
 
   module _ (from e : ℕ) (r : Reading) (some : from < length text) (forward : from ≤ e) (h : (k : ℕ) → from ≤ k → k < e → Ends-line (getD text k 0) → ⊥) (reads : Reads from (piece text from e) r) where
     pub line-by : e < length text → Ends-line (getD text e 0) → Line-at text from r (e + 1)

@@ -1,16 +1,16 @@
 -- One step of the scanner, or a run of bytes of a class, at an offset of its line. Assumes nothing.
 use mathlib.Core.Path.{_≡_, refl, sym, ap, subst, _∙_}
-use mathlib.Core.Bool.{Bool, true, false, cond}
+use mathlib.Core.Bool.{Bool, true, false, cond, _&&_}
 use mathlib.Core.List.{List, [], _∷_, _++_}
 use mathlib.Core.Logic.{_⊎_, inl, inr, ⊎-elim}
 use Prim.Native.Nat.{ℕ, zero, suc, _+_, _-_, _<_, _≤_}
 use native.Mathlib.Omega.{arith}
-use lib.Dec.{leb, eqb}
+use lib.Dec.{leb}
 use lib.ListN.{length, getD, take}
-use Rattle.std.proofs.shelf.Tests.{both-ways, cases-lt, cond-true, cond-false, le-leb, ne-eqb}
+use Rattle.std.proofs.shelf.Tests.{both-ways, cases-lt, cond-true, le-leb, leb-true, and-parts, or-cases}
 use Rattle.std.proofs.shelf.Lists.{take-more}
 use Rattle.grammar.specs.Regular.{Range, inside}
-use Rattle.grammar.specs.Productions.{blank, letter, alnum, labelChar, iriChar, stringChar, escapeLetter, commentChar}
+use Rattle.grammar.specs.Productions.{blank, letter, alnum, labelChar, iriChar, stringChar, ucharLetter, commentChar}
 use Rattle.grammar.specs.Scanner as scan
 use Rattle.grammar.specs.Scanner.{Next, verb, thing, dot, Role, follows, State, start, iri, slash, under, colon, label, before, string, escape, quoted, at, tag, hyphen, sub, caret, carets, ended, remark, dead, move, step, run, Sort, inner, between, done, slashes, escapes, letters, none, sort, plain, in-term, in-line, Stands, Slashed, in-iri, in-string, Halted, Halts, Stuck, Stuck-escape, Ended, Tagged, Run-to}
 use Rattle.grammar.proofs.Derivatives.{lowRanges, low-inside}
@@ -116,12 +116,26 @@ module _ (f : Sort → Bool) (s : State) (bs : List ℕ) (k : ℕ) where
   pub halt-other : Stuck f s bs k → k < length bs → getD bs k 0 < 128 → Halts f s bs k 3
   halt-other h l c = record { state = h .state; stands = h .stands; live = h .live; why = scan.other l c (h .next l) }
 
-module _ (s : State) (bs : List ℕ) (k : ℕ) (h : Stuck-escape s bs k) where
-  pub halt-letter : k < length bs → (getD bs k 0 ≡ 117) ⊎ (getD bs k 0 ≡ 85) → Halts in-term s bs k 2
-  halt-letter l e = record { state = h .state; stands = h .stands; live = inr (h .slashed); why = scan.unicode l (h .slashed) e }
+is-letter : (c : ℕ) → inside ucharLetter c ≡ true → (c ≡ 117) ⊎ (c ≡ 85)
+is-letter c i =
+    ⊎-elim
+    (λ x. let q = and-parts _ _ x in let y = leb-true 85 c (q .0) in let z = leb-true c 85 (q .1) in inr (omega arith))
+    (λ x. ⊎-elim
+      (λ w. let q = and-parts _ _ w in let y = leb-true 117 c (q .0) in let z = leb-true c 117 (q .1) in inl (omega arith))
+      (λ w. absurd (both-ways false refl w))
+      (or-cases (leb 117 c && leb c 117) false x))
+    (or-cases (leb 85 c && leb c 85) _ i)
 
-  pub escape-stuck : (k < length bs → (getD bs k 0 ≡ 117 → ⊥) × (getD bs k 0 ≡ 85 → ⊥)) → Stuck in-term s bs k
-  escape-stuck n = record { state = h .state; stands = h .stands; live = inr (h .slashed); next = λ l. h .next l (n l .0) (n l .1); end = λ _. deep (h .state) (h .slashed) }
+module _ (s : State) (bs : List ℕ) (k : ℕ) (h : Stuck-escape s bs k) where
+  pub halt-letter : k < length bs → inside ucharLetter (getD bs k 0) ≡ true → Halts in-term s bs k 2
+  halt-letter l i = record { state = h .state; stands = h .stands; live = inr (h .slashed); why = scan.unicode l (h .slashed) (is-letter (getD bs k 0) i) }
+
+  pub escape-stuck : (k < length bs → inside ucharLetter (getD bs k 0) ≡ false) → Stuck in-term s bs k
+  escape-stuck n = record {
+      state = h .state; stands = h .stands; live = inr (h .slashed);
+      next = λ l. h .next l (λ e. both-ways _ (n l) (ap (inside ucharLetter) e)) (λ e. both-ways _ (n l) (ap (inside ucharLetter) e));
+      end = λ _. deep (h .state) (h .slashed);
+    }
     where
       deep : (t : State) → Slashed s bs k t → in-term (sort t) ≡ true
       deep t (in-iri n j a b x y) = refl

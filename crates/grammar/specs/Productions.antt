@@ -45,6 +45,10 @@ stringChar = to 0 9 ∷ to 11 12 ∷ to 14 33 ∷ to 35 91 ∷ to 93 127 ∷ []
 abbrev pub escapeLetter : List Range
 escapeLetter = to 34 34 ∷ to 39 39 ∷ to 92 92 ∷ to 98 98 ∷ to 102 102 ∷ to 110 110 ∷ to 114 114 ∷ to 116 116 ∷ []
 
+-- the letters of \u and \U
+abbrev pub ucharLetter : List Range
+ucharLetter = to 85 85 ∷ to 117 117 ∷ []
+
 -- up to 127, none of LF and CR
 abbrev pub commentChar : List Range
 commentChar = to 0 9 ∷ to 11 12 ∷ to 14 127 ∷ []

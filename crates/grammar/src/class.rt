@@ -3,7 +3,7 @@
 ghost use mathlib.Core.Path.{_≡_};
 ghost use mathlib.Core.List.{List};
 ghost use Rattle.grammar.specs.Regular.{Range, inside};
-ghost use Rattle.grammar.specs.Productions.{blank, letter, alnum, labelChar, iriChar, stringChar, escapeLetter, commentChar};
+ghost use Rattle.grammar.specs.Productions.{blank, letter, alnum, labelChar, iriChar, stringChar, escapeLetter, ucharLetter, commentChar};
 
 pub trait Class {
     // the class as the grammar writes it
@@ -90,6 +90,17 @@ pub impl Class for EscapeLetters as EscapeLettersClass {
             't' | 'b' | 'n' | 'r' | 'f' | '"' | '\'' | '\\' => true,
             _ => false,
         }
+    }
+}
+
+// The letters of the escapes `\u` and `\U`, which are not read.
+pub struct UcharLetters;
+
+pub impl Class for UcharLetters as UcharLettersClass {
+    ghost ranges = { ucharLetter };
+
+    fn contains(b: u8) -> bool {
+        matches!(b, b'U' | b'u')
     }
 }
 

@@ -9,6 +9,8 @@ use Rattle.ntriples.specs.declared.fault.FaultKind.the-variants.{HighByte, Uni
 use Rattle.ntriples.specs.declared.fault.Fault.{Fault}
 use Rattle.ntriples.specs.declared.token.Token.{Token}
 use Rattle.ntriples.specs.declared.token.Token.the-variants.{Iri, Label, Literal}
+use Rattle.ntriples.specs.declared.term.NameForm.{NameForm}
+use Rattle.ntriples.specs.declared.term.NameForm.the-variants.{Iri as NameIri, Literal as NameLiteral}
 use Rattle.ntriples.specs.declared.token.Located.{Located}
 use Rattle.ntriples.specs.declared.token.Statement.{Statement}
 use Rattle.ntriples.specs.declared.token.Line.{Line}
@@ -19,6 +21,11 @@ abbrev pub number : FaultKind → ℕ
 number HighByte = 1
 number UnicodeEscape = 2
 number Unexpected = 3
+
+-- the kind of a name's form
+abbrev pub form-kind : NameForm → Kind
+form-kind NameIri = an-iri
+form-kind NameLiteral = a-literal
 
 -- the kind and the bytes of a token
 abbrev pub kind-of : Token → Kind

@@ -1,5 +1,6 @@
 // Why a line cannot be read, and where.
 ghost use mathlib.Core.Path.{_≡_};
+ghost use Prim.Native.Nat.{_+_, _^_, _<_};
 ghost use Rattle.ntriples.specs.Answers.{number};
 
 // What stands at the first place where a line cannot go on.
@@ -31,4 +32,14 @@ impl FaultKind {
 pub struct Fault {
     pub kind: FaultKind,
     pub offset: usize,
+}
+
+impl Fault {
+    // The fault of a line that begins at `base`, as one of its document.
+    pub(crate) fn at_base(self, base: usize) -> Fault
+        requires fits { ⌜ base + self .offset < 2 ^ 64 ⌝ }
+        ensures { λ r. ⌜ (r .kind ≡ self .kind) × (r .offset ≡ base + self .offset) ⌝ }
+    {
+        Fault { kind: self.kind, offset: base + self.offset }
+    }
 }

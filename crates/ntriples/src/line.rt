@@ -160,6 +160,6 @@ pub fn read<'a>(line: &'a [u8], base: usize) -> Result<Line<'a>, Fault>
 {
     match content(line, base) {
         Ok(l) => Ok(l),
-        Err(f) => Err(Fault { kind: f.kind, offset: base + f.offset }),
+        Err(f) => Err(f.at_base(base)),
     }
 }

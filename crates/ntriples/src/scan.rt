@@ -17,6 +17,7 @@ use grammar::class::IriCharsClass;
 use grammar::class::LabelCharsClass;
 use grammar::class::LettersClass;
 use grammar::class::StringCharsClass;
+use grammar::class::UcharLettersClass;
 
 // Past the bytes of a class that stand at `from`.
 pub fn run_end<C: Class>(line: &[u8], from: usize) -> usize
@@ -54,7 +55,7 @@ pub fn stuck_escape(line: &[u8], pos: usize) -> Fault
     if pos >= line.len() {
         return stuck(line, pos);
     }
-    if line[pos] == b'u' || line[pos] == b'U' {
+    if UcharLettersClass::contains(line[pos]) {
         return Fault { kind: FaultKind::UnicodeEscape, offset: pos };
     }
     stuck(line, pos)

@@ -2,7 +2,8 @@
 use mathlib.Core.Path.{_≡_}
 use mathlib.Core.Bool.{cond}
 use mathlib.Core.List.{List, [], _∷_, _++_}
-use Prim.Native.Nat.{ℕ, _≤_, _<_}
+use mathlib.Core.Logic.{_⊎_}
+use Prim.Native.Nat.{ℕ, _≤_}
 use lib.Dec.{eqb}
 use lib.ListN.{length}
 use Rattle.grammar.specs.Regular.{Spells}
@@ -69,11 +70,14 @@ canonical (typed-name v i) = quoted (escaped v) ++ 94 ∷ 94 ∷ bracketed i
 abbrev pub longest : ℕ
 longest = 255
 
--- the bytes are the canonical spelling of some token, and not too long
-pub record Lawful (bs : List ℕ) : Type 0 where
-  pub kind : Kind
+-- the bytes are the canonical spelling of some token of the kind, and not too long
+pub record Lawful-as (k : Kind) (bs : List ℕ) : Type 0 where
   pub text : List ℕ
   pub name : Name
-  pub denoted : Denotes kind text name
+  pub denoted : Denotes k text name
   pub spelled : canonical name ≡ bs
   pub short : length bs ≤ longest
+
+-- the bytes are the canonical spelling of some token, and not too long; labels have none
+abbrev pub Lawful : List ℕ → Type 0
+Lawful bs = Lawful-as an-iri bs ⊎ Lawful-as a-literal bs

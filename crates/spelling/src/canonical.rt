@@ -1,13 +1,11 @@
 // The calls on spellings.
 ghost use mathlib.Core.Bool.{true, false};
-ghost use mathlib.Core.List.{List};
 ghost use mathlib.Core.Path.{_≡_};
-ghost use Prim.Native.Nat.{ℕ, _≤_};
-ghost use lib.ListN.{length};
-ghost use Rattle.grammar.specs.Readings.{Kind};
+ghost use Rattle.std.specs.Orderings.{When};
+ghost use Rattle.std.specs.Results.{Cases};
 ghost use Rattle.ntriples.specs.Answers.{kind-of, bytes-of};
-ghost use Rattle.spelling.specs.Names.{Name, Denotes, canonical, longest, Lawful};
-ghost use Rattle.spelling.specs.Answers.{number, Spelling, Reads-back, One-spelling};
+ghost use Rattle.spelling.specs.Names.{Name, Denotes, Lawful-as, Lawful};
+ghost use Rattle.spelling.specs.Answers.{number, Served, Over, Spelling, Reads-back, One-spelling};
 ghost use Rattle.spelling.specs.Writing.{Spelled};
 use crate::LONGEST;
 use crate::text::write_iri;
@@ -52,28 +50,42 @@ fn write(token: Token, out: &mut [u8; LONGEST]) -> Option<usize>
     }
 }
 
-// The canonical spelling of the token's name at the start of `out`, and its length. `None` where the token denotes
-// no name. What is not told leaves `out` as it was, and so do the bytes behind the spelling.
-pub fn spell(token: Token, out: &mut [u8; LONGEST]) -> Result<Option<usize>, TooLong>
-    ensures spells { λ r. ⌜ Spelling (kind-of (token .entry)) (bytes-of (token .entry)) (now (out .entry)) (now (out .exit)) r ⌝ }
+// The canonical spelling of the token's name at the start of `out`; what `out` holds after a refusal is not said.
+fn spell_into(token: Token, out: &mut [u8; LONGEST]) -> Result<Option<usize>, TooLong>
+    ensures spells { λ r. ⌜ Cases r (λ x. Served (kind-of (token .entry)) (bytes-of (token .entry)) (now (out .entry)) (now (out .exit)) x) (λ _. Over (kind-of (token .entry)) (bytes-of (token .entry))) ⌝ }
     ensures reads_back { λ _. ⌜ Reads-back (kind-of (token .entry)) (bytes-of (token .entry)) ⌝ }
     ensures one_spelling { λ _. ⌜ One-spelling (kind-of (token .entry)) (bytes-of (token .entry)) ⌝ }
 {
     if !has_name(token) {
         return Ok(None);
     }
-    let mut copy = *out;
-    let Some(n) = write(token, &mut copy) else {
-        return Err(TooLong);
-    };
-    *out = copy;
-    Ok(Some(n))
+    match write(token, out) {
+        Some(n) => Ok(Some(n)),
+        None => Err(TooLong),
+    }
 }
 
-// Whether the bytes are the canonical spelling of the token.
-fn is_spelling_of(token: Token, bytes: &[u8]) -> bool
-    ensures yes { λ r. ⌜ (r ≡ true → (n : Name) × Denotes (kind-of (token .entry)) (bytes-of (token .entry)) n × (canonical n ≡ now (bytes .entry)) × (length (now (bytes .entry)) ≤ longest)) ⌝ }
-    ensures no { λ r. ⌜ (r ≡ false → (n : Name) → Denotes (kind-of (token .entry)) (bytes-of (token .entry)) n → canonical n ≡ now (bytes .entry) → length (now (bytes .entry)) ≤ longest → ⊥) ⌝ }
+// The canonical spelling of the token's name at the start of `out`, and its length. `None` where the token denotes
+// no name. `None` and a refusal leave `out` as it was, and so do the bytes behind a spelling.
+pub fn spell(token: Token, out: &mut [u8; LONGEST]) -> Result<Option<usize>, TooLong>
+    ensures spells { λ r. ⌜ Spelling (kind-of (token .entry)) (bytes-of (token .entry)) (now (out .entry)) (now (out .exit)) r ⌝ }
+    ensures reads_back { λ _. ⌜ Reads-back (kind-of (token .entry)) (bytes-of (token .entry)) ⌝ }
+    ensures one_spelling { λ _. ⌜ One-spelling (kind-of (token .entry)) (bytes-of (token .entry)) ⌝ }
+{
+    let mut copy = *out;
+    match spell_into(token, &mut copy) {
+        Ok(told) => {
+            *out = copy;
+            Ok(told)
+        }
+        Err(e) => Err(e),
+    }
+}
+
+// Whether the bytes are the canonical spelling of a token of this kind; the token has the bytes.
+fn is_lawful_as(token: Token, bytes: &[u8]) -> bool
+    requires same { ⌜ bytes-of token ≡ now bytes ⌝ }
+    ensures { λ r. ⌜ When r (Lawful-as (kind-of (token .entry)) (now (bytes .entry))) (Lawful-as (kind-of (token .entry)) (now (bytes .entry)) → ⊥) ⌝ }
 {
     if !has_name(token) {
         return false;
@@ -88,8 +100,10 @@ fn is_spelling_of(token: Token, bytes: &[u8]) -> bool
 
 // Whether the bytes are a lawful spelling: the canonical spelling of some token, of at most 255 bytes.
 pub fn is_lawful(bytes: &[u8]) -> bool
-    ensures yes { λ r. ⌜ (r ≡ true → Lawful (now (bytes .entry))) ⌝ }
-    ensures no { λ r. ⌜ (r ≡ false → Lawful (now (bytes .entry)) → ⊥) ⌝ }
+    ensures { λ r. ⌜ When r (Lawful (now (bytes .entry))) (Lawful (now (bytes .entry)) → ⊥) ⌝ }
 {
-    is_spelling_of(Token::Iri(bytes), bytes) || is_spelling_of(Token::Literal(bytes), bytes)
+    if is_lawful_as(Token::Iri(bytes), bytes) {
+        return true;
+    }
+    is_lawful_as(Token::Literal(bytes), bytes)
 }

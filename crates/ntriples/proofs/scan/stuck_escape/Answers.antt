@@ -1,10 +1,12 @@
-use mathlib.Core.Path.{refl}
-use mathlib.Core.Logic.{inl, inr}
+use mathlib.Core.Path.{_≡_, refl}
+use mathlib.Core.Bool.{true, false}
 use native.Mathlib.Omega.{arith}
+use lib.ListN.{getD}
+use Rattle.grammar.specs.Regular.{inside}
+use Rattle.grammar.specs.Productions.{ucharLetter}
 use Rattle.grammar.specs.Scanner.{in-term}
 use Rattle.grammar.proofs.Steps.{halt-letter, escape-stuck}
 use Rattle.ntriples.proofs.scan.stuck_escape.Needs as need
-use Rattle.ntriples.proofs.scan.stuck_escape.Needs.{then-line-pos-eq117·by·then-line-pos-eq117, then-line-pos-eq117·by·else-line-pos-eq117·then-line-pos-eq85}
 
 pub returns-then-pos-line : need.returns-then-pos-line
 returns-then-pos-line c = record {
@@ -12,17 +14,15 @@ returns-then-pos-line c = record {
     halts = λ s h. c .stuck .ensures .halts in-term s (escape-stuck s (c .args .line .now) (c .args .pos) h (λ l. absurd (omega arith)));
   }
 
-pub returns-then-line-pos-eq117 : need.returns-then-line-pos-eq117
-returns-then-line-pos-eq117 c = record {
-    place = refl;
-    halts = λ s h. halt-letter s (c .args .line .now) (c .args .pos) h (omega arith)
-      (elim (c .then-line-pos-eq117 .came) [
-        then-line-pos-eq117·by·then-line-pos-eq117 w ↦ inl (w .if-line-pos-eq117 .taken)
-      | then-line-pos-eq117·by·else-line-pos-eq117·then-line-pos-eq85 w ↦ inr (w .if-line-pos-eq85 .taken) ]);
-  }
+pub returns-then-contains : need.returns-then-contains
+returns-then-contains c =
+    let i : inside ucharLetter (getD (c .args .line .now) (c .args .pos) 0) ≡ true = cc in
+    record { place = refl; halts = λ s h. halt-letter s (c .args .line .now) (c .args .pos) h (omega arith) i }
 
 pub returns : need.returns
-returns c = record {
-    place = c .stuck-2 .ensures .place;
-    halts = λ s h. c .stuck-2 .ensures .halts in-term s (escape-stuck s (c .args .line .now) (c .args .pos) h (λ l. (c .if-line-pos-eq117 .left, c .if-line-pos-eq85 .left)));
-  }
+returns c =
+    let i : inside ucharLetter (getD (c .args .line .now) (c .args .pos) 0) ≡ false = cc in
+    record {
+      place = c .stuck-2 .ensures .place;
+      halts = λ s h. c .stuck-2 .ensures .halts in-term s (escape-stuck s (c .args .line .now) (c .args .pos) h (λ l. i));
+    }

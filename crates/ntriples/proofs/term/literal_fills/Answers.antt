@@ -8,7 +8,7 @@ use Rattle.grammar.specs.Productions.{part, literal}
 use Rattle.grammar.specs.Scanner.{thing, dot, before, string}
 use Rattle.grammar.proofs.Steps.{by-byte}
 use Rattle.grammar.proofs.Recognise.{is-all, not-all, not-stuck, first-is}
-use Rattle.ntriples.proofs.term.is_literal.Needs as need
+use Rattle.ntriples.proofs.term.literal_fills.Needs as need
 
 pub returns-then-is-empty : need.returns-then-is-empty
 returns-then-is-empty c = record { yes = λ e. absurd (both-ways false refl e); no = λ e i. let f = first-is (literal part) 34 (c .args .text .now) refl refl i in let z = eqb-true _ 0 (sym (c .if-is-empty .ensures tt)) in omega (arith, f .0, z) }

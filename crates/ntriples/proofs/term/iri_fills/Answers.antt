@@ -8,7 +8,7 @@ use Rattle.grammar.specs.Productions.{part, IRIREF}
 use Rattle.grammar.specs.Scanner.{thing, dot, before, iri}
 use Rattle.grammar.proofs.Steps.{by-byte, before-ended}
 use Rattle.grammar.proofs.Recognise.{is-all, not-all, not-stuck, first-is}
-use Rattle.ntriples.proofs.term.is_iri.Needs as need
+use Rattle.ntriples.proofs.term.iri_fills.Needs as need
 
 pub returns-then-is-empty : need.returns-then-is-empty
 returns-then-is-empty c = record { yes = λ e. absurd (both-ways false refl e); no = λ e i. let f = first-is (IRIREF part) 60 (c .args .text .now) refl refl i in let z = eqb-true _ 0 (sym (c .if-is-empty .ensures tt)) in omega (arith, f .0, z) }
