@@ -26,12 +26,12 @@ away-out r (s ∷ ss) c h k x =
     let q = and-parts (leb (r .low) c) (leb c (r .high)) k in
     ⊎-elim
     (λ y.
-      let z = and-parts (leb (s .low) c) (leb c (s .high)) y in
-      let a = leb-true _ _ (q .0) in
-      let b = leb-true _ _ (q .1) in
-      let d = leb-true _ _ (z .0) in
-      let f = leb-true _ _ (z .1) in
-      ⊎-elim (λ l. omega (arith, ltb-true (r .high) (s .low) l)) (λ l. omega (arith, ltb-true (s .high) (r .low) l)) (or-cases (ltb (r .high) (s .low)) (ltb (s .high) (r .low)) (p .0)))
+    let z = and-parts (leb (s .low) c) (leb c (s .high)) y in
+    let a = leb-true _ _ (q .0) in
+    let b = leb-true _ _ (q .1) in
+    let d = leb-true _ _ (z .0) in
+    let f = leb-true _ _ (z .1) in
+    ⊎-elim (λ l. omega (arith, ltb-true (r .high) (s .low) l)) (λ l. omega (arith, ltb-true (s .high) (r .low) l)) (or-cases (ltb (r .high) (s .low)) (ltb (s .high) (r .low)) (p .0)))
     (λ y. away-out r ss c (p .1) k y)
     (or-cases (leb (s .low) c && leb c (s .high)) (inside ss c) x)
 

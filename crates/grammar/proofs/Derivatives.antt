@@ -150,6 +150,7 @@ then-is a b c true e f g u = (out, in′)
         (λ x. then-front a b (der c a) c u f x)
         (λ x. ([], c ∷ u, refl, nullable-out a e, g u .0 x))
         (alt-is (seq (der c a) b) (der c b) u .1 h)
+
     in′ : Spells (a then b) (c ∷ u) → Spells (alt (seq (der c a) b) (der c b)) u
     in′ ([], t, q, x, y) = alt-is (seq (der c a) b) (der c b) u .0 (inr (g u .1 (subst (Spells b) (sym q) y)))
     in′ (d ∷ s, t, q, x, y) = alt-is (seq (der c a) b) (der c b) u .0 (inl (then-back a b (der c a) c d u s t f q x y))
@@ -165,9 +166,10 @@ many-back a d c u v f (more [] t e x y) q = many-back a d c u t f y (q ∙ e)
 many-back a d c u v f (more (x ∷ s) t e h y) q = then-back a (many a) d c x u s t f (q ∙ e) h y
 
 many-is : (a d : Expr) (c : ℕ) → Follows c a d → Follows c (many a) (seq d (many a))
-many-is a d c f u =
-    ((λ h. let k = then-front a (many a) d c u f h in more (k .0) (k .1) (k .2) (k .3) (k .4)),
-      (λ h. many-back a d c u (c ∷ u) f h refl))
+many-is a d c f u = (
+  (λ h. let k = then-front a (many a) d c u f h in more (k .0) (k .1) (k .2) (k .3) (k .4)),
+  (λ h. many-back a d c u (c ∷ u) f h refl),
+)
 
 -- the derivative spells just what follows c
 pub der-is : (c : ℕ) (e : Expr) → Follows c e (der c e)
@@ -175,9 +177,10 @@ der-is c never u = (λ h. h, λ h. h)
 der-is c empty u = (λ h. absurd h, λ h. no-nil _ _ (sym h))
 der-is c (one rs) u = (one-out rs c u (inside rs c) refl, one-in rs c u (inside rs c) refl)
 der-is c (a then b) u = then-is a b c (nullable a) refl (der-is c a) (der-is c b) u
-der-is c (a or b) u =
-    ((λ h. ⊎-elim (λ x. inl (der-is c a u .0 x)) (λ x. inr (der-is c b u .0 x)) (alt-is (der c a) (der c b) u .1 h)),
-      (λ h. alt-is (der c a) (der c b) u .0 (⊎-elim (λ x. inl (der-is c a u .1 x)) (λ x. inr (der-is c b u .1 x)) h)))
+der-is c (a or b) u = (
+  (λ h. ⊎-elim (λ x. inl (der-is c a u .0 x)) (λ x. inr (der-is c b u .0 x)) (alt-is (der c a) (der c b) u .1 h)),
+  (λ h. alt-is (der c a) (der c b) u .0 (⊎-elim (λ x. inl (der-is c a u .1 x)) (λ x. inr (der-is c b u .1 x)) h)),
+)
 der-is c (many a) u = many-is a (der c a) c (der-is c a) u
 
 pub ders-out : (p u : List ℕ) (e : Expr) → Spells (ders p e) u → Spells e (p ++ u)

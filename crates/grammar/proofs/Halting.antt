@@ -176,8 +176,8 @@ module _ (bs : List ℕ) (k : ℕ) (t : State) (st : Stands start bs k t) where
 -- a halt from the start is the first place where the line cannot go on
 pub stops : (bs : List ℕ) (k n : ℕ) → Halts in-line start bs k n → Stops (line full) (line part) bs k n
 stops bs k n h = record {
-    before = goes bs k (h .state) (h .stands) (h .live);
-    here = goes-not bs k (h .state) (h .stands) n (h .live) (h .why);
-    end = ends-not bs k (h .state) (h .stands) n (h .why);
-    why = reason bs k (h .state) (h .stands) n (h .live) (h .why);
-  }
+  before = goes bs k (h .state) (h .stands) (h .live);
+  here = goes-not bs k (h .state) (h .stands) n (h .live) (h .why);
+  end = ends-not bs k (h .state) (h .stands) n (h .why);
+  why = reason bs k (h .state) (h .stands) n (h .live) (h .why);
+}

@@ -40,26 +40,28 @@ module _ (text : List ℕ) where
   module _ (from e : ℕ) (r : Reading) (some : from < length text) (forward : from ≤ e) (h : (k : ℕ) → from ≤ k → k < e → Ends-line (getD text k 0) → ⊥) (reads : Reads from (piece text from e) r) where
     pub line-by : e < length text → Ends-line (getD text e 0) → Line-at text from r (e + 1)
     line-by l c = record {
-        bs = piece text from e; ending = getD text e 0 ∷ [];
-        cut = record {
-            some = drop-some from some;
-            split = drop-piece from e forward ∙ ap (λ u. piece text from e ++ u) (drop-more text e 0 l);
-            unbroken = unbroken-from (e - from) from e (omega arith) (omega arith) h;
-            ended = by (getD text e 0) c;
-          };
-        next-is = omega (arith, piece-length text from e forward (omega arith));
-        reads = reads;
-      }
+      bs = piece text from e;
+      ending = getD text e 0 ∷ [];
+      cut = record {
+        some = drop-some from some;
+        split = drop-piece from e forward ∙ ap (λ u. piece text from e ++ u) (drop-more text e 0 l);
+        unbroken = unbroken-from (e - from) from e (omega arith) (omega arith) h;
+        ended = by (getD text e 0) c;
+      };
+      next-is = omega (arith, piece-length text from e forward (omega arith));
+      reads = reads;
+    }
 
     pub line-last : e ≡ length text → Line-at text from r e
     line-last l = record {
-        bs = piece text from e; ending = [];
-        cut = record {
-            some = drop-some from some;
-            split = drop-piece from e forward;
-            unbroken = unbroken-from (e - from) from e (omega arith) (omega arith) h;
-            ended = at-end (drop-all e text (omega arith));
-          };
-        next-is = omega (arith, piece-length text from e forward (omega arith));
-        reads = reads;
-      }
+      bs = piece text from e;
+      ending = [];
+      cut = record {
+        some = drop-some from some;
+        split = drop-piece from e forward;
+        unbroken = unbroken-from (e - from) from e (omega arith) (omega arith) h;
+        ended = at-end (drop-all e text (omega arith));
+      };
+      next-is = omega (arith, piece-length text from e forward (omega arith));
+      reads = reads;
+    }

@@ -66,17 +66,19 @@ no-dot c e u = cond-false (inside blank c) _ _ e ∙ past _ _ _ _ u
 module _ (s : State) (bs : List ℕ) (k : ℕ) where
   pub slash-stuck : (n : Next) → k < length bs → getD bs k 0 ≡ 92 → Stands s bs k (iri n) → Stuck-escape s bs (k + 1)
   slash-stuck n l e h = record {
-      state = slash n;
-      stands = by-byte s bs k 92 (iri n) (slash n) h l e refl;
-      slashed = in-iri n k refl l h e;
-      next = λ m u v. no-step (slash n) (getD bs (k + 1) 0) (past _ _ _ _ u ∙ past _ _ _ _ v);
-    }
+    state = slash n;
+    stands = by-byte s bs k 92 (iri n) (slash n) h l e refl;
+    slashed = in-iri n k refl l h e;
+    next = λ m u v. no-step (slash n) (getD bs (k + 1) 0) (past _ _ _ _ u ∙ past _ _ _ _ v);
+  }
 
   pub string-stuck : Stands s bs k escape → (k < length bs → inside escapeLetter (getD bs k 0) ≡ false) → Stuck-escape s bs k
   string-stuck h e = record {
-      state = escape; stands = h; slashed = in-string;
-      next = λ m u v. no-step escape (getD bs k 0) (cond-false (inside escapeLetter (getD bs k 0)) _ _ (e m) ∙ past _ _ _ _ u ∙ past _ _ _ _ v);
-    }
+    state = escape;
+    stands = h;
+    slashed = in-string;
+    next = λ m u v. no-step escape (getD bs k 0) (cond-false (inside escapeLetter (getD bs k 0)) _ _ (e m) ∙ past _ _ _ _ u ∙ past _ _ _ _ v);
+  }
 
 -- the ends of terms
 module _ (s : State) (bs : List ℕ) (k : ℕ) where

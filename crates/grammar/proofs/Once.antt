@@ -82,6 +82,6 @@ module _ (whole ours : Expr) where
       ⊎-elim
       (λ e. s .end e x)
       (⊎-elim
-        (λ h. s .here h (begins (drop (k + 1) bs, subst (Spells ours) (sym (take-append-drop (k + 1) bs)) x)))
-        (λ h. omega arith))
+      (λ h. s .here h (begins (drop (k + 1) bs, subst (Spells ours) (sym (take-append-drop (k + 1) bs)) x)))
+      (λ h. omega arith))
       (cases-order k (length bs))

@@ -27,19 +27,23 @@ use Rattle.grammar.proofs.Terms.{delimiter, one-term}
 
 -- a term and a dot end a line from the object on
 with-dot : (u : List ℕ) → Spells (object part) u → Spells (left part (before thing)) (u ++ 46 ∷ [])
-with-dot u h =
-    (u ++ 46 ∷ [], [], sym (append-nil (u ++ 46 ∷ [])),
-      (u ++ 46 ∷ [], [], sym (append-nil (u ++ 46 ∷ [])), ([], u ++ 46 ∷ [], refl, stop, (u, 46 ∷ [], refl, h, ([], 46 ∷ [], refl, stop, (46, refl, refl)))), stop),
-      inl refl)
+with-dot u h = (
+  u ++ 46 ∷ [],
+  [],
+  sym (append-nil (u ++ 46 ∷ [])),
+  (u ++ 46 ∷ [], [], sym (append-nil (u ++ 46 ∷ [])), ([], u ++ 46 ∷ [], refl, stop, (u, 46 ∷ [], refl, h, ([], 46 ∷ [], refl, stop, (46, refl, refl)))), stop),
+  inl refl,
+)
 
 module _ (bs : List ℕ) (h : Spells (object part) bs) where
   -- what is left before the byte at k
   rest-at : (k : ℕ) (t : State) → Stands (before thing) bs k t → k < length bs → (u : List ℕ) × Spells (left part t) (getD bs k 0 ∷ u)
   rest-at k t st l =
       let e : bs ++ 46 ∷ [] ≡ take k bs ++ (getD bs k 0 ∷ (drop (k + 1) bs ++ 46 ∷ [])) =
-          ap (λ x. x ++ 46 ∷ []) (sym (take-append-drop k bs) ∙ ap (λ x. take k bs ++ x) (drop-more bs k 0 l)) ∙ append-assoc (take k bs) (getD bs k 0 ∷ drop (k + 1) bs) (46 ∷ []) in
-      (drop (k + 1) bs ++ 46 ∷ [],
-        subst (λ s. Spells (left part s) (getD bs k 0 ∷ (drop (k + 1) bs ++ 46 ∷ []))) st (run-part (before thing) (take k bs) _ (subst (Spells (left part (before thing))) e (with-dot bs h))))
+      ap (λ x. x ++ 46 ∷ []) (sym (take-append-drop k bs) ∙ ap (λ x. take k bs ++ x) (drop-more bs k 0 l)) ∙ append-assoc (take k bs) (getD bs k 0 ∷ drop (k + 1) bs) (46 ∷ []) in (
+        drop (k + 1) bs ++ 46 ∷ [],
+        subst (λ s. Spells (left part s) (getD bs k 0 ∷ (drop (k + 1) bs ++ 46 ∷ []))) st (run-part (before thing) (take k bs) _ (subst (Spells (left part (before thing))) e (with-dot bs h))),
+      )
 
   goes-dead : (k : ℕ) (t : State) → Stands (before thing) bs k t → k < length bs → left part (step t (getD bs k 0)) ≡ never → ⊥
   goes-dead k t st l d =
@@ -67,9 +71,9 @@ module _ (bs : List ℕ) (h : Spells (object part) bs) where
       ⊎-elim
       (λ i. delimited (in-left blank (to 46 46 ∷ to 60 60 ∷ []) (getD bs k 0) i))
       (λ i. ⊎-elim
-        (λ e. delimited (ap (inside delimiter) e))
-        (λ e. goes-dead k (x .state) (x .stands) l (ap (left part) (x .next l ∙ no-step (before dot) (getD bs k 0) (no-dot (getD bs k 0) i e))))
-        (cases-eq (getD bs k 0) 46))
+      (λ e. delimited (ap (inside delimiter) e))
+      (λ e. goes-dead k (x .state) (x .stands) l (ap (left part) (x .next l ∙ no-step (before dot) (getD bs k 0) (no-dot (getD bs k 0) i e))))
+      (cases-eq (getD bs k 0) 46))
       (cases-bool (inside blank (getD bs k 0)))
     where
       delimited : inside delimiter (getD bs k 0) ≡ true → ⊥

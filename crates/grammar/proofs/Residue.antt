@@ -22,7 +22,7 @@ of-line e = (e then WS) then (empty or comment)
 
 abbrev slashed : Expr
 slashed = byte 117 then one hex then one hex then one hex then one hex
-      or byte 85 then one hex then one hex then one hex then one hex then one hex then one hex then one hex then one hex
+    or byte 85 then one hex then one hex then one hex then one hex then one hex then one hex then one hex then one hex
 
 abbrev subtags : Expr
 subtags = many (byte 45 then one alnum then many (one alnum))
@@ -128,8 +128,8 @@ same-at f g (suc n) i c e l h =
     ⊎-elim
     (λ q. subst (λ k. f k ≡ g k) q (let z : f i ≡ g i = cc in z))
     (⊎-elim
-      (λ q. same-at f g n (suc i) c (let z : map f (up (suc i) n) ≡ map g (up (suc i) n) = cc in z) (omega arith) (omega arith))
-      (λ q. absurd (omega arith)))
+    (λ q. same-at f g n (suc i) c (let z : map f (up (suc i) n) ≡ map g (up (suc i) n) = cc in z) (omega arith) (omega arith))
+    (λ q. absurd (omega arith)))
     (cases-order i c)
 
 pub row-at : (x : Extent) (s : State) (c : ℕ) → c < 128 → skipped x (step s c) (der c (left x s)) ≡ left x (step s c)

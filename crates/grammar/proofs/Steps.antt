@@ -98,7 +98,7 @@ pub blanks-ended : (s : State) (bs : List ℕ) (k e : ℕ) (n : Next) → Run-to
 blanks-ended s bs k e n r h =
     ⊎-elim
     (λ l. before-ended s bs e n (stays s bs blank (before n) (loops-before n) (e - (k + 1)) (k + 1) e (omega arith) (r .within) (λ j a b. r .all j (omega arith) b)
-      (onward s bs k (h .state) (before n) (h .stands) (omega (arith, r .within)) (h .next (omega (arith, r .within)) ∙ loops-before n (getD bs k 0) (r .all k (omega arith) l)))))
+    (onward s bs k (h .state) (before n) (h .stands) (omega (arith, r .within)) (h .next (omega (arith, r .within)) ∙ loops-before n (getD bs k 0) (r .all k (omega arith) l)))))
     (λ l. subst (λ x. Ended s bs x n) (let z : k ≡ e = omega (arith, r .forward) in z) h)
     (cases-lt k e)
 
@@ -121,9 +121,9 @@ is-letter c i =
     ⊎-elim
     (λ x. let q = and-parts _ _ x in let y = leb-true 85 c (q .0) in let z = leb-true c 85 (q .1) in inr (omega arith))
     (λ x. ⊎-elim
-      (λ w. let q = and-parts _ _ w in let y = leb-true 117 c (q .0) in let z = leb-true c 117 (q .1) in inl (omega arith))
-      (λ w. absurd (both-ways false refl w))
-      (or-cases (leb 117 c && leb c 117) false x))
+    (λ w. let q = and-parts _ _ w in let y = leb-true 117 c (q .0) in let z = leb-true c 117 (q .1) in inl (omega arith))
+    (λ w. absurd (both-ways false refl w))
+    (or-cases (leb 117 c && leb c 117) false x))
     (or-cases (leb 85 c && leb c 85) _ i)
 
 module _ (s : State) (bs : List ℕ) (k : ℕ) (h : Stuck-escape s bs k) where
@@ -132,10 +132,12 @@ module _ (s : State) (bs : List ℕ) (k : ℕ) (h : Stuck-escape s bs k) where
 
   pub escape-stuck : (k < length bs → inside ucharLetter (getD bs k 0) ≡ false) → Stuck in-term s bs k
   escape-stuck n = record {
-      state = h .state; stands = h .stands; live = inr (h .slashed);
-      next = λ l. h .next l (λ e. both-ways _ (n l) (ap (inside ucharLetter) e)) (λ e. both-ways _ (n l) (ap (inside ucharLetter) e));
-      end = λ _. deep (h .state) (h .slashed);
-    }
+    state = h .state;
+    stands = h .stands;
+    live = inr (h .slashed);
+    next = λ l. h .next l (λ e. both-ways _ (n l) (ap (inside ucharLetter) e)) (λ e. both-ways _ (n l) (ap (inside ucharLetter) e));
+    end = λ _. deep (h .state) (h .slashed);
+  }
     where
       deep : (t : State) → Slashed s bs k t → in-term (sort t) ≡ true
       deep t (in-iri n j a b x y) = refl

@@ -45,8 +45,8 @@ module _ (base : ℕ) (bs : List ℕ) where
   same-triple : (at at′ : ℕ) (s p o s′ p′ o′ : Term) → Holds base bs at s p o → Holds base bs at′ s′ p′ o′ → a-triple at s p o ≡ a-triple at′ s′ p′ o′
   same-triple at at′ s p o s′ p′ o′ h k =
       let e =
-        same-pieces (WS ∷ after-blanks) (h .w₁ ∷ parts-after h) (k .w₁ ∷ parts-after k) refl
-          (h .blanks .0, parts-are h) (k .blanks .0, parts-are k) (sym (split-is h) ∙ split-is k) in
+      same-pieces (WS ∷ after-blanks) (h .w₁ ∷ parts-after h) (k .w₁ ∷ parts-after k) refl
+      (h .blanks .0, parts-are h) (k .blanks .0, parts-are k) (sym (split-is h) ∙ split-is k) in
       let x = same-term _ _ s s′ (h .is-subject) (k .is-subject) (cc) (cc) in
       let y = same-term _ _ p p′ (h .is-predicate) (k .is-predicate) (cc) (cc) in
       let z = same-term _ _ o o′ (h .is-object) (k .is-object) (cc) (cc) in
@@ -104,8 +104,8 @@ same-ending e a e′ a′ (at-end h) (at-end k) p = (refl, p)
 pub one-cut : (text b e a b′ e′ a′ : List ℕ) → Cut text b e a → Cut text b′ e′ a′ → (b ≡ b′) × (e ≡ e′) × (a ≡ a′)
 one-cut text b e a b′ e′ a′ h k =
     let p =
-      one-run (λ c. Ends-line c → ⊥) Ends-line (λ c x y. x y) b b′ (e ++ a) (e′ ++ a′) (unbroken-all b (h .unbroken)) (unbroken-all b′ (k .unbroken))
-        (ending-first e a (h .ended)) (ending-first e′ a′ (k .ended)) (sym (h .split) ∙ k .split) in
+    one-run (λ c. Ends-line c → ⊥) Ends-line (λ c x y. x y) b b′ (e ++ a) (e′ ++ a′) (unbroken-all b (h .unbroken)) (unbroken-all b′ (k .unbroken))
+    (ending-first e a (h .ended)) (ending-first e′ a′ (k .ended)) (sym (h .split) ∙ k .split) in
     let q = same-ending e a e′ a′ (h .ended) (k .ended) (p .1) in
     (p .0, q .0, q .1)
 

@@ -26,13 +26,30 @@ holds-line base bs at s p o h = go (h .tail) (h .ends) (h .split)
   where
     t : List ℕ
     t = s .text ++ (h .w₂ ++ (p .text ++ (h .w₃ ++ (o .text ++ (h .w₄ ++ 46 ∷ [])))))
+
     moved : (u : List ℕ) → s .text ++ (h .w₂ ++ (p .text ++ (h .w₃ ++ (o .text ++ (h .w₄ ++ 46 ∷ u))))) ≡ (s .text ++ (h .w₂ ++ (p .text ++ (h .w₃ ++ (o .text ++ (h .w₄ ++ 46 ∷ [])))))) ++ u
     moved u = sym (simp append-assoc)
+
     go : (u : List ℕ) → Spells rest u → bs ≡ h .w₁ ++ (s .text ++ (h .w₂ ++ (p .text ++ (h .w₃ ++ (o .text ++ (h .w₄ ++ 46 ∷ u)))))) → Spells (line part) bs
-    go u (w, c, e, x, y) q =
-        (h .w₁, (t ++ w) ++ c, q ∙ ap (λ l. h .w₁ ++ l) (moved u ∙ ap (λ l. t ++ l) e ∙ sym (append-assoc t w c)), h .blanks .0,
-          (t ++ w, c, refl, inr (t, w, refl,
-            (s .text, _, refl, h .is-subject .allowed, (h .w₂, _, refl, h .blanks .1, (p .text, _, refl, h .is-predicate .allowed, (h .w₃, _, refl, h .blanks .2, (o .text, _, refl, h .is-object .allowed, (h .w₄, 46 ∷ [], refl, h .blanks .3, (46, refl, refl))))))), x), y))
+    go u (w, c, e, x, y) q = (
+      h .w₁,
+      (t ++ w) ++ c,
+      q ∙ ap (λ l. h .w₁ ++ l) (moved u ∙ ap (λ l. t ++ l) e ∙ sym (append-assoc t w c)),
+      h .blanks .0,
+      (
+        t ++ w,
+        c,
+        refl,
+        inr (
+          t,
+          w,
+          refl,
+          (s .text, _, refl, h .is-subject .allowed, (h .w₂, _, refl, h .blanks .1, (p .text, _, refl, h .is-predicate .allowed, (h .w₃, _, refl, h .blanks .2, (o .text, _, refl, h .is-object .allowed, (h .w₄, 46 ∷ [], refl, h .blanks .3, (46, refl, refl))))))),
+          x,
+        ),
+        y,
+      ),
+    )
 
 -- a line cut at the ends of its parts
 pub split-line : (bs : List ℕ) (a b c d e f g : ℕ) → a ≤ b → b ≤ c → c ≤ d → d ≤ e → e ≤ f → f ≤ g → g < length bs → getD bs g 0 ≡ 46
@@ -64,10 +81,16 @@ module _ (base : ℕ) (bs : List ℕ) (a b c d e f g : ℕ) (s p o : Term)
       let le = piece-length bs d e l (omega arith) in
       let q = split-line bs a b c d e f g i j k l m n within dot in
       record {
-        w₁ = piece bs 0 a; w₂ = piece bs b c; w₃ = piece bs d e; w₄ = piece bs f g; tail = piece bs (g + 1) (length bs);
+        w₁ = piece bs 0 a;
+        w₂ = piece bs b c;
+        w₃ = piece bs d e;
+        w₄ = piece bs f g;
+        tail = piece bs (g + 1) (length bs);
         split = cc;
         blanks = (u .spelled, v .spelled, w .spelled, t .spelled);
-        is-subject = fs; is-predicate = fp; is-object = fo;
+        is-subject = fs;
+        is-predicate = fp;
+        is-object = fo;
         ends = r .spelled;
         at-is = omega (arith, la);
         s-at = so;

@@ -46,7 +46,7 @@ pub record Row : Type 0 where
 pub data Lines : ℕ → List ℕ → List Row → Type 0 where
   none : {at : ℕ} → Lines at [] []
   more : {at : ℕ} {text : List ℕ} {row : Row} {rows : List Row} (after : List ℕ) → Cut text (row .text) (row .ending) after → row .offset ≡ at → Reads at (row .text) (row .reading)
-    → Lines (at + length (row .text) + length (row .ending)) after rows → Lines at text (row ∷ rows)
+      → Lines (at + length (row .text) + length (row .ending)) after rows → Lines at text (row ∷ rows)
 
 -- the lines with their ends, joined
 abbrev pub joined : List Row → List ℕ

@@ -57,7 +57,7 @@ commentChar = to 0 9 ∷ to 11 12 ∷ to 14 127 ∷ []
 abbrev pub UCHAR : Extent → Expr
 UCHAR full =
     byte 92 then (byte 117 then one hex then one hex then one hex then one hex
-      or byte 85 then one hex then one hex then one hex then one hex then one hex then one hex then one hex then one hex)
+    or byte 85 then one hex then one hex then one hex then one hex then one hex then one hex then one hex then one hex)
 UCHAR part = never
 
 abbrev pub ECHAR : Expr

@@ -27,10 +27,10 @@ pub record Term : Type 0 where
 
 -- what a line is read as
 pub data Reading : Type 0 where
-  a-triple : ℕ → Term → Term → Term → Reading   -- its offset, and subject, predicate and object
+  a-triple : ℕ → Term → Term → Term → Reading  -- its offset, and subject, predicate and object
   a-comment : Reading
   nothing : Reading
-  a-fault : ℕ → ℕ → Reading                     -- the refusal number, and the offset of the place
+  a-fault : ℕ → ℕ → Reading  -- the refusal number, and the offset of the place
 
 -- the term stands where the production e is, and is of its own kind
 pub record Fits (e : Expr) (t : Term) : Type 0 where

@@ -20,14 +20,13 @@ inside (r ∷ rs) c = (leb (r .low) c && leb c (r .high)) || inside rs c
 
 infixr 30 _then_
 infixr 20 _or_
-
 pub data Expr : Type 0 where
-  never : Expr                     -- no string
-  empty : Expr                     -- the empty string
-  one : List Range → Expr          -- one byte of the class
+  never : Expr  -- no string
+  empty : Expr  -- the empty string
+  one : List Range → Expr  -- one byte of the class
   _then_ : Expr → Expr → Expr
   _or_ : Expr → Expr → Expr
-  many : Expr → Expr               -- any number of strings, one after another
+  many : Expr → Expr  -- any number of strings, one after another
 
 -- any number of strings of L, one after another
 pub data Star (L : List ℕ → Type 0) : List ℕ → Type 0 where

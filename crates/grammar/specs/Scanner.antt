@@ -12,14 +12,14 @@ use Rattle.grammar.specs.Productions.{blank, letter, alnum, labelChar, iriChar
 
 -- what is to come after a term
 pub data Next : Type 0 where
-  verb : Next               -- the predicate
-  thing : Next              -- the object
+  verb : Next  -- the predicate
+  thing : Next  -- the object
   dot : Next
 
 -- where a label may stand
 pub data Role : Type 0 where
-  first : Role              -- as the subject
-  last : Role               -- as the object
+  first : Role  -- as the subject
+  last : Role  -- as the object
 
 abbrev pub follows : Role → Next
 follows first = verb
@@ -27,24 +27,24 @@ follows last = dot
 
 pub data State : Type 0 where
   start : State
-  iri : Next → State        -- inside < >
-  slash : Next → State      -- after a backslash inside < >
-  under : Role → State      -- after _
-  colon : Role → State      -- after _:
-  label : Role → State      -- after a byte of a label
-  before : Next → State     -- after a term
-  string : State            -- inside quotes
-  escape : State            -- after a backslash inside quotes
-  quoted : State            -- after the closing quote
-  at : State                -- after @
-  tag : State               -- after a letter of a language tag
-  hyphen : State            -- after a hyphen of a language tag
-  sub : State               -- after a byte that follows a hyphen
-  caret : State             -- after ^
-  carets : State            -- after ^^
-  ended : State             -- after the dot
-  remark : State            -- after #
-  uchar : State             -- after the letter of \u or \U
+  iri : Next → State  -- inside < >
+  slash : Next → State  -- after a backslash inside < >
+  under : Role → State  -- after _
+  colon : Role → State  -- after _:
+  label : Role → State  -- after a byte of a label
+  before : Next → State  -- after a term
+  string : State  -- inside quotes
+  escape : State  -- after a backslash inside quotes
+  quoted : State  -- after the closing quote
+  at : State  -- after @
+  tag : State  -- after a letter of a language tag
+  hyphen : State  -- after a hyphen of a language tag
+  sub : State  -- after a byte that follows a hyphen
+  caret : State  -- after ^
+  carets : State  -- after ^^
+  ended : State  -- after the dot
+  remark : State  -- after #
+  uchar : State  -- after the letter of \u or \U
   dead : State
 
 abbrev pub letterU : ℕ → State
@@ -88,12 +88,12 @@ run s (c ∷ u) = run (step s c) u
 
 -- the sorts of states
 pub data Sort : Type 0 where
-  inner : Sort              -- inside a term
-  between : Sort            -- a term may have ended here
-  done : Sort               -- the line may end here
-  slashes : Sort            -- after a backslash inside < >
-  escapes : Sort            -- after a backslash inside quotes
-  letters : Sort            -- after the letter of \u or \U
+  inner : Sort  -- inside a term
+  between : Sort  -- a term may have ended here
+  done : Sort  -- the line may end here
+  slashes : Sort  -- after a backslash inside < >
+  escapes : Sort  -- after a backslash inside quotes
+  letters : Sort  -- after the letter of \u or \U
   none : Sort
 
 abbrev pub sort : State → Sort

@@ -40,6 +40,9 @@ impl Fault {
         requires fits { ⌜ base + self .offset < 2 ^ 64 ⌝ }
         ensures { λ r. ⌜ (r .kind ≡ self .kind) × (r .offset ≡ base + self .offset) ⌝ }
     {
-        Fault { kind: self.kind, offset: base + self.offset }
+        Fault {
+            kind: self.kind,
+            offset: base + self.offset,
+        }
     }
 }

@@ -69,11 +69,17 @@ fn subject_at<'a>(line: &'a [u8], from: usize) -> Result<Found<'a>, Fault>
 {
     if line[from] == b'<' {
         let end = iri_end(line, from)?;
-        return Ok(Found { token: Token::Iri(&line[from..end]), end });
+        return Ok(Found {
+            token: Token::Iri(&line[from..end]),
+            end,
+        });
     }
     if line[from] == b'_' {
         let end = label_end(line, from)?;
-        return Ok(Found { token: Token::Label(&line[from..end]), end });
+        return Ok(Found {
+            token: Token::Label(&line[from..end]),
+            end,
+        });
     }
     Err(stuck(line, from))
 }
@@ -86,7 +92,10 @@ fn predicate_at<'a>(line: &'a [u8], from: usize) -> Result<Found<'a>, Fault>
 {
     let _ = expect(line, from, b'<')?;
     let end = iri_end(line, from)?;
-    Ok(Found { token: Token::Iri(&line[from..end]), end })
+    Ok(Found {
+        token: Token::Iri(&line[from..end]),
+        end,
+    })
 }
 
 // The object at `from`, after blanks.
@@ -100,22 +109,35 @@ fn object_at<'a>(line: &'a [u8], from: usize) -> Result<Found<'a>, Fault>
     }
     if line[from] == b'<' {
         let end = iri_end(line, from)?;
-        return Ok(Found { token: Token::Iri(&line[from..end]), end });
+        return Ok(Found {
+            token: Token::Iri(&line[from..end]),
+            end,
+        });
     }
     if line[from] == b'_' {
         let end = label_end(line, from)?;
-        return Ok(Found { token: Token::Label(&line[from..end]), end });
+        return Ok(Found {
+            token: Token::Label(&line[from..end]),
+            end,
+        });
     }
     if line[from] == b'"' {
         let end = literal_end(line, from)?;
-        return Ok(Found { token: Token::Literal(&line[from..end]), end });
+        return Ok(Found {
+            token: Token::Literal(&line[from..end]),
+            end,
+        });
     }
     Err(stuck(line, from))
 }
 
 // The triple of a line whose subject is at `from`, after blanks, up to the line's end. The offsets of the triple
 // and its terms count from the document's first byte, a fault's from the line's.
-fn statement_at<'a>(line: &'a [u8], from: usize, base: usize) -> Result<Located<Statement<'a>>, Fault>
+fn statement_at<'a>(
+    line: &'a [u8],
+    from: usize,
+    base: usize,
+) -> Result<Located<Statement<'a>>, Fault>
     requires here { ⌜ (from < length (now line)) × (getD (now line) from 0 ≡ 35 → ⊥) × Run-to blank (now line) 0 from ⌝ }
     requires fits { ⌜ base + length (now line) < 2 ^ 64 ⌝ }
     ensures { λ r. ⌜ Cases r (λ t. Reads base (now (line .entry)) (line-reading (Line.Triple t))) (λ f. (f .offset ≤ length (now (line .entry))) × Halts in-line start (now (line .entry)) (f .offset) (number (f .kind))) ⌝ }
@@ -129,11 +151,23 @@ fn statement_at<'a>(line: &'a [u8], from: usize, base: usize) -> Result<Located<
     let after = expect(line, stop, b'.')?;
     rest_at(line, after)?;
     let item = Statement {
-        subject: Located { item: subject.token, offset: base + from },
-        predicate: Located { item: predicate.token, offset: base + middle },
-        object: Located { item: object.token, offset: base + last },
+        subject: Located {
+            item: subject.token,
+            offset: base + from,
+        },
+        predicate: Located {
+            item: predicate.token,
+            offset: base + middle,
+        },
+        object: Located {
+            item: object.token,
+            offset: base + last,
+        },
     };
-    Ok(Located { item, offset: base + from })
+    Ok(Located {
+        item,
+        offset: base + from,
+    })
 }
 
 // What the line holds; a fault's offset counts from the line's first byte.

@@ -38,12 +38,21 @@ pub fn stuck(line: &[u8], pos: usize) -> Fault
     ensures halts { λ r. ⌜ ((f : Sort → Bool) (s : State) → Stuck f s (now (line .entry)) pos → Halts f s (now (line .entry)) (r .offset) (number (r .kind))) ⌝ }
 {
     if pos >= line.len() {
-        return Fault { kind: FaultKind::Unexpected, offset: pos };
+        return Fault {
+            kind: FaultKind::Unexpected,
+            offset: pos,
+        };
     }
     if line[pos] > 127 {
-        return Fault { kind: FaultKind::HighByte, offset: pos };
+        return Fault {
+            kind: FaultKind::HighByte,
+            offset: pos,
+        };
     }
-    Fault { kind: FaultKind::Unexpected, offset: pos }
+    Fault {
+        kind: FaultKind::Unexpected,
+        offset: pos,
+    }
 }
 
 // The same right after a backslash.
@@ -56,7 +65,10 @@ pub fn stuck_escape(line: &[u8], pos: usize) -> Fault
         return stuck(line, pos);
     }
     if UcharLettersClass::contains(line[pos]) {
-        return Fault { kind: FaultKind::UnicodeEscape, offset: pos };
+        return Fault {
+            kind: FaultKind::UnicodeEscape,
+            offset: pos,
+        };
     }
     stuck(line, pos)
 }

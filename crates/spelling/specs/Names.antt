@@ -12,14 +12,14 @@ use Rattle.grammar.specs.Readings.{Kind, an-iri, a-literal}
 
 -- the byte that an escape letter stands for
 pub data Escape : ℕ → ℕ → Type 0 where
-  tab : Escape 116 9            -- \t
-  backspace : Escape 98 8       -- \b
-  newline : Escape 110 10       -- \n
-  return : Escape 114 13        -- \r
-  feed : Escape 102 12          -- \f
-  quote : Escape 34 34          -- \"
-  apostrophe : Escape 39 39     -- \'
-  backslash : Escape 92 92      -- \\
+  tab : Escape 116 9  -- \t
+  backspace : Escape 98 8  -- \b
+  newline : Escape 110 10  -- \n
+  return : Escape 114 13  -- \r
+  feed : Escape 102 12  -- \f
+  quote : Escape 34 34  -- \"
+  apostrophe : Escape 39 39  -- \'
+  backslash : Escape 92 92  -- \\
 
 -- the bytes between the quotes, and the lexical form that they stand for
 pub data Means : List ℕ → List ℕ → Type 0 where

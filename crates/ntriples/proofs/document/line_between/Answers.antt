@@ -19,8 +19,8 @@ returns c =
     let r = reading (c .read-outcome .result) in
     let here = c .pre .here in
     let reads : Line-at text from r next =
-        ⊎-elim
-        (λ l. subst (Line-at text from r) (sym (told .0 l)) (line-by text from end r (here .0) (here .1) (c .pre .unbroken) (c .read-outcome .ensures) l (c .pre .ended l)))
-        (λ l. subst (Line-at text from r) (sym (told .1 l)) (line-last text from end r (here .0) (here .1) (c .pre .unbroken) (c .read-outcome .ensures) (omega (arith, here .2))))
-        (cases-lt end (length text)) in
+    ⊎-elim
+    (λ l. subst (Line-at text from r) (sym (told .0 l)) (line-by text from end r (here .0) (here .1) (c .pre .unbroken) (c .read-outcome .ensures) l (c .pre .ended l)))
+    (λ l. subst (Line-at text from r) (sym (told .1 l)) (line-last text from end r (here .0) (here .1) (c .pre .unbroken) (c .read-outcome .ensures) (omega (arith, here .2))))
+    (cases-lt end (length text)) in
     record { reads = reads; only = λ o n h. one-line text from o r n next h reads }

@@ -18,7 +18,7 @@ returns-then-end-line c =
     record {
       found = omega (arith, run .within);
       goes = λ s h. c .stuck .ensures .halts in-line s (stuck-at in-line s bs end remark (run-stays s bs commentChar remark loops-remark (c .args .from + 1) end run h)
-        refl (λ l. no-remark (getD bs end 0) (run .past l)) (λ e. absurd (omega arith)));
+          refl (λ l. no-remark (getD bs end 0) (run .past l)) (λ e. absurd (omega arith)));
     }
 
 pub returns : need.returns

@@ -23,8 +23,11 @@ returns-in-Break-comment-at c =
     let bs = c .args .line .now in
     let p = err-from-errBy (c .from-residual .result) (c .from-residual .ensures .1) in
     let told = c .in-Break-comment-at .ensures tt in
-    rw (p .1, p .2) (told .found, told .goes start (by-byte start bs (c .run-end-from .result) 35 start remark
-      (run-stays start bs blank start loops-start 0 (c .run-end-from .result) (c .run-end-from .ensures) refl) (omega arith) (omega arith) refl))
+    rw (p .1, p .2) (
+      told .found,
+      told .goes start (by-byte start bs (c .run-end-from .result) 35 start remark
+          (run-stays start bs blank start loops-start 0 (c .run-end-from .result) (c .run-end-from .ensures) refl) (omega arith) (omega arith) refl),
+    )
 
 pub returns-then-line-from-eq35 : need.returns-then-line-from-eq35
 returns-then-line-from-eq35 c =
@@ -32,5 +35,5 @@ returns-then-line-from-eq35 c =
     let run = c .run-end-from .ensures in
     let told = c .in-Continue-comment-at .ensures tt in
     let w : Spells (WS then comment) bs = subst (Spells (WS then comment)) (piece-whole bs)
-        (join bs WS comment 0 (c .run-end-from .result) (length bs) (omega arith) (run .within) (run-spells bs blank 0 (c .run-end-from .result) run) (told .found .spelled)) in
+    (join bs WS comment 0 (c .run-end-from .result) (length bs) (omega arith) (run .within) (run-spells bs blank 0 (c .run-end-from .result) run) (told .found .spelled)) in
     (comment-line bs w, w)

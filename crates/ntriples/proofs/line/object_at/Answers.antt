@@ -70,5 +70,5 @@ returns c =
     record {
       found = omega (arith, c .stuck-2 .ensures .place, c .pre .here .0);
       goes = λ s h. c .stuck-2 .ensures .halts in-line s (after-stuck s bs (c .args .from) thing h
-        (λ l. no-thing (getD bs (c .args .from) 0) (c .pre .here .1 l) (c .if-line-from-eq60 .left) (c .if-line-from-eq95 .left) (c .if-line-from-eq34 .left)));
+          (λ l. no-thing (getD bs (c .args .from) 0) (c .pre .here .1 l) (c .if-line-from-eq60 .left) (c .if-line-from-eq95 .left) (c .if-line-from-eq34 .left)));
     }

@@ -30,7 +30,7 @@ returns-then-line-end-ne35 c =
     record {
       found = omega (arith, run .within);
       goes = λ s h. c .stuck .ensures .halts in-line s (stuck-at in-line s bs end ended (run-stays s bs blank ended loops-ended (c .args .from) end run h)
-        refl (λ l. no-ended (getD bs end 0) (run .past l) (c .if-line-end-ne35 .taken)) (λ e. absurd (omega arith)));
+          refl (λ l. no-ended (getD bs end 0) (run .past l) (c .if-line-end-ne35 .taken)) (λ e. absurd (omega arith)));
     }
 
 pub returns : need.returns
@@ -40,7 +40,7 @@ returns c =
     let run = c .run-end-end .ensures in
     record {
       found = cases-weaker (c .comment-at .result) (c .comment-at .ensures .found)
-        (λ _ h. record { spelled = join bs WS (empty or comment) (c .args .from) end (length bs) (run .forward) (run .within) (run-spells bs blank (c .args .from) end run) (inr (h .spelled)) })
-        (λ f h. h);
+          (λ _ h. record { spelled = join bs WS (empty or comment) (c .args .from) end (length bs) (run .forward) (run .within) (run-spells bs blank (c .args .from) end run) (inr (h .spelled)) })
+          (λ f h. h);
       goes = λ s h. c .comment-at .ensures .goes s (by-byte s bs end 35 ended remark (run-stays s bs blank ended loops-ended (c .args .from) end run h) (omega arith) (omega arith) refl);
     }

@@ -70,7 +70,7 @@ returns-in-Break-rest-at c =
     let p = err-from-errBy (c .from-residual-in-Break-rest-at .result) (c .from-residual-in-Break-rest-at .ensures .1) in
     let told = c .in-Break-rest-at .ensures tt in
     rw (p .1, p .2) (let d = c .in-Continue-after .ensures tt in
-      (told .found, told .goes start (subst (λ x. Stands start bs x ended) (sym (d .0)) (after-byte start bs (c .run-end-stop .result) dot e₆ 46 ended (d .1) (d .2) refl))))
+    (told .found, told .goes start (subst (λ x. Stands start bs x ended) (sym (d .0)) (after-byte start bs (c .run-end-stop .result) dot e₆ 46 ended (d .1) (d .2) refl))))
 
 pub returns : need.returns
 returns c =
@@ -84,9 +84,9 @@ returns c =
     let d = c .in-Continue-after .ensures tt in
     let tail : Is rest (piece bs (c .run-end-stop .result + 1) (length bs)) = subst (λ x. Is rest (piece bs x (length bs))) (d .0) (c .in-Continue-rest-at .ensures tt .found) in
     let h = build-holds (c .args .base) bs (c .args .from) _ (c .run-end-middle .result) _ (c .run-end-last .result) _ (c .run-end-stop .result)
-        (term-of (c .in-Continue-subject .subject .token) (c .args .base + c .args .from)) (term-of (c .in-Continue-predicate .predicate .token) (c .args .base + c .run-end-middle .result)) (term-of (c .in-Continue-object .object .token) (c .args .base + c .run-end-last .result))
-        (omega (arith, s .0)) (m .forward) (omega (arith, p .0)) (l .forward) (omega (arith, o .0)) (t .forward) (d .1) (d .2)
-        (s .2) (p .2) (o .2)
-        (record { spelled = run-spells bs blank 0 (c .args .from) (c .pre .here .2) }) (record { spelled = run-spells bs blank _ _ m }) (record { spelled = run-spells bs blank _ _ l }) (record { spelled = run-spells bs blank _ _ t })
-        (s .3 _) (p .3 _) (o .3 _) tail refl refl refl in
+    (term-of (c .in-Continue-subject .subject .token) (c .args .base + c .args .from)) (term-of (c .in-Continue-predicate .predicate .token) (c .args .base + c .run-end-middle .result)) (term-of (c .in-Continue-object .object .token) (c .args .base + c .run-end-last .result))
+    (omega (arith, s .0)) (m .forward) (omega (arith, p .0)) (l .forward) (omega (arith, o .0)) (t .forward) (d .1) (d .2)
+    (s .2) (p .2) (o .2)
+    (record { spelled = run-spells bs blank 0 (c .args .from) (c .pre .here .2) }) (record { spelled = run-spells bs blank _ _ m }) (record { spelled = run-spells bs blank _ _ l }) (record { spelled = run-spells bs blank _ _ t })
+    (s .3 _) (p .3 _) (o .3 _) tail refl refl refl in
     (holds-line _ _ _ _ _ _ h, h)

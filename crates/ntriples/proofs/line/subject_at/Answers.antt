@@ -46,5 +46,5 @@ returns c =
     record {
       found = omega (arith, c .stuck .ensures .place, c .pre .here .0);
       goes = λ s h. c .stuck .ensures .halts in-line s (stuck-at in-line s bs (c .args .from) start h refl
-        (λ l. no-start (getD bs (c .args .from) 0) (c .pre .here .1) (c .pre .here .2) (c .if-line-from-eq60 .left) (c .if-line-from-eq95 .left)) (λ e. absurd (omega (arith, c .pre .here .0))));
+          (λ l. no-start (getD bs (c .args .from) 0) (c .pre .here .1) (c .pre .here .2) (c .if-line-from-eq60 .left) (c .if-line-from-eq95 .left)) (λ e. absurd (omega (arith, c .pre .here .0))));
     }

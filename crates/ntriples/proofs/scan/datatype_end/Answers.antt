@@ -20,7 +20,7 @@ returns-in-Break-expect c =
     rw (p .1, p .2) (record {
       found = told .0;
       goes = λ s h. told .1 in-term s (λ not-so. stuck-at in-term s bs (c .in-Continue-bracket .bracket) carets
-        (subst (λ x. Stands s bs x carets) (sym (first .0)) (by-byte s bs (c .args .from + 1) 94 caret carets h (first .1) (first .2) refl)) refl (λ l. no-carets _ (not-so l)) (λ _. refl));
+          (subst (λ x. Stands s bs x carets) (sym (first .0)) (by-byte s bs (c .args .from + 1) 94 caret carets h (first .1) (first .2) refl)) refl (λ l. no-carets _ (not-so l)) (λ _. refl));
     })
 
 pub returns : need.returns
@@ -30,12 +30,16 @@ returns c =
     let second = c .in-Continue-expect .ensures tt in
     record {
       found = cases-weaker (c .iri-end .result) (c .iri-end .ensures .found)
-        (λ e h. (omega (arith, first .0, h .0), h .1, build-datatype bs (c .args .from) (c .pre .here .0) e (c .pre .here .1) (first .1) (first .2) (omega (arith, first .0, h .0))
-          (subst (λ x. Is (IRIREF part) (piece bs x e)) (first .0) (h .2))))
-        (λ f h. h);
+          (λ e h. (
+            omega (arith, first .0, h .0),
+            h .1,
+            build-datatype bs (c .args .from) (c .pre .here .0) e (c .pre .here .1) (first .1) (first .2) (omega (arith, first .0, h .0))
+                (subst (λ x. Is (IRIREF part) (piece bs x e)) (first .0) (h .2)),
+          ))
+          (λ f h. h);
       goes = λ s h. cases-weaker (c .iri-end .result) (c .iri-end .ensures .goes s dot
           (by-byte s bs (c .in-Continue-bracket .bracket) 60 carets (iri dot)
-            (subst (λ x. Stands s bs x carets) (sym (first .0)) (by-byte s bs (c .args .from + 1) 94 caret carets h (first .1) (first .2) refl)) (second .1) (second .2) refl))
-        (λ e k. before-ended s bs e dot k)
-        (λ f k. k);
+          (subst (λ x. Stands s bs x carets) (sym (first .0)) (by-byte s bs (c .args .from + 1) 94 caret carets h (first .1) (first .2) refl)) (second .1) (second .2) refl))
+          (λ e k. before-ended s bs e dot k)
+          (λ f k. k);
     }

@@ -18,8 +18,8 @@ returns-then-end-first c =
     record {
       found = omega (arith, run .within);
       goes = λ s r h. c .stuck .ensures .halts in-term s (stuck-at in-term s bs (c .run-end-end .result) (colon r)
-        (subst (λ x. Stands s bs x (colon r)) here (by-byte s bs (c .args .from + 1) 58 (under r) (colon r) h (told .1) (told .2) refl))
-        refl (λ l. no-colon r (getD bs (c .run-end-end .result) 0) (run .past l)) (λ _. refl));
+          (subst (λ x. Stands s bs x (colon r)) here (by-byte s bs (c .args .from + 1) 58 (under r) (colon r) h (told .1) (told .2) refl))
+          refl (λ l. no-colon r (getD bs (c .run-end-end .result) 0) (run .past l)) (λ _. refl));
     }
 
 pub returns : need.returns

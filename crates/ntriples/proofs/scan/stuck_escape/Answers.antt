@@ -10,9 +10,9 @@ use Rattle.ntriples.proofs.scan.stuck_escape.Needs as need
 
 pub returns-then-pos-line : need.returns-then-pos-line
 returns-then-pos-line c = record {
-    place = c .stuck .ensures .place;
-    halts = λ s h. c .stuck .ensures .halts in-term s (escape-stuck s (c .args .line .now) (c .args .pos) h (λ l. absurd (omega arith)));
-  }
+  place = c .stuck .ensures .place;
+  halts = λ s h. c .stuck .ensures .halts in-term s (escape-stuck s (c .args .line .now) (c .args .pos) h (λ l. absurd (omega arith)));
+}
 
 pub returns-then-contains : need.returns-then-contains
 returns-then-contains c =

@@ -17,8 +17,8 @@ returns-then-end-from c =
     record {
       found = omega (arith, run .within);
       goes = λ s h. c .stuck .ensures .halts in-term s (stuck-at in-term s bs end hyphen
-        (subst (λ x. Stands s bs x hyphen) here (tag-hyphen s bs (c .args .from) h (c .pre .here .0) (c .pre .here .1)))
-        refl (λ l. no-hyphen (getD bs end 0) (run .past l)) (λ _. refl));
+          (subst (λ x. Stands s bs x hyphen) here (tag-hyphen s bs (c .args .from) h (c .pre .here .0) (c .pre .here .1)))
+          refl (λ l. no-hyphen (getD bs end 0) (run .past l)) (λ _. refl));
     }
 
 pub returns : need.returns

@@ -18,24 +18,29 @@ returns-then-letters-from c =
     record {
       found = omega (arith, run .within);
       goes = λ s h. c .stuck .ensures .halts in-term s (stuck-at in-term s bs (c .run-end-letters .result) at (subst (λ x. Stands s bs x at) here h)
-        refl (λ l. no-at (getD bs (c .run-end-letters .result) 0) (run .past l)) (λ _. refl));
+          refl (λ l. no-at (getD bs (c .run-end-letters .result) 0) (run .past l)) (λ _. refl));
     }
 
 pub loop-pos-holds : need.loop-pos-holds
 loop-pos-holds c =
     let bs = c .args .line .now in
-    let run = c .run-end-letters .ensures in
-    (omega arith, run .within, none-yet bs subtag (c .run-end-letters .result),
-      λ s h. tag-run s bs (c .args .from + 1) (c .run-end-letters .result) run (omega (arith, run .forward)) h)
+    let run = c .run-end-letters .ensures in (
+      omega arith,
+      run .within,
+      none-yet bs subtag (c .run-end-letters .result),
+      λ s h. tag-run s bs (c .args .from + 1) (c .run-end-letters .result) run (omega (arith, run .forward)) h,
+    )
 
 pub loop-pos-again : need.loop-pos-again
 loop-pos-again c =
     let bs = c .args .line .now in
     let inv = c .loop-pos .inv in
-    let told = c .in-Continue-pos .ensures tt in
-    (omega (arith, inv .0, told .found .0), told .found .1,
+    let told = c .in-Continue-pos .ensures tt in (
+      omega (arith, inv .0, told .found .0),
+      told .found .1,
       more-subtag bs (c .run-end-letters .result) (c .loop-pos .pos) (c .in-Continue-pos .pos) (inv .0) (omega (arith, told .found .0)) (inv .2) (told .found .2),
-      λ s h. told .goes s (inv .3 s h))
+      λ s h. told .goes s (inv .3 s h),
+    )
 
 pub returns-else-line-pos-eq45 : need.returns-else-line-pos-eq45
 returns-else-line-pos-eq45 c =

@@ -26,5 +26,5 @@ returns c =
     let n = c .in-Some .n in
     let d = matches-decides _ _ _ (c .eq .ensures) in
     let front : take (n - 0) (c .write .last .out) ≡ canonical (named .0) =
-        ap (take (n - 0)) (told .2) ∙ take-append-le (n - 0) (canonical (named .0)) _ (omega (arith, told .0)) ∙ take-all (n - 0) (canonical (named .0)) (omega (arith, told .0)) in
+    ap (take (n - 0)) (told .2) ∙ take-append-le (n - 0) (canonical (named .0)) _ (omega (arith, told .0)) ∙ take-all (n - 0) (canonical (named .0)) (omega (arith, told .0)) in
     lawful-or-not k (c .args .bytes .now) (named .0) (c .eq .result) (subst (λ t. Denotes k t (named .0)) (c .pre .same) (named .1)) (omega (arith, told .0, told .1)) (λ e. sym front ∙ d .0 e) (λ q. d .1 (front ∙ q))

@@ -1,0 +1,4 @@
+pub mod Judgements
+pub mod Tallies
+pub mod Bytes
+pub mod Walks
