@@ -1,5 +1,5 @@
 -- The productions of terms put together from the pieces of a line. Assumes nothing.
-use mathlib.Core.Path.{_≡_, refl, sym, subst}
+use mathlib.Core.Path.{_≡_, refl}
 use mathlib.Core.Bool.{true}
 use mathlib.Core.List.{List}
 use mathlib.Core.Logic.{inl, inr}
@@ -7,7 +7,7 @@ use Prim.Native.Nat.{ℕ, _+_, _<_, _≤_}
 use native.Mathlib.Omega.{arith}
 use lib.ListN.{length, getD}
 use Rattle.grammar.specs.Regular.{inside, one, _then_, _or_, many, Spells, Is}
-use Rattle.grammar.specs.Productions.{part, byte, letter, alnum, labelChar, iriChar, stringChar, escapeLetter, UCHAR, ECHAR, IRIREF, BLANK-NODE-LABEL, STRING-LITERAL-QUOTE, subtag, LANGTAG, suffix, datatype, literal, WS, comment, commentChar, rest}
+use Rattle.grammar.specs.Productions.{part, byte, letter, alnum, labelChar, iriChar, stringChar, escapeLetter, UCHAR, ECHAR, IRIREF, BLANK-NODE-LABEL, STRING-LITERAL-QUOTE, subtag, LANGTAG, suffix, datatype, literal, comment, commentChar}
 use Rattle.grammar.specs.Scanner.{piece, Run-to}
 use Rattle.grammar.proofs.Slices.{piece-none, byte-at, class-at, join, none-yet, one-more, run-spells, run-units, run-some}
 
@@ -41,7 +41,7 @@ module _ (bs : List ℕ) (a : ℕ) (l : a < length bs) where
   build-subtag e q r k = record { spelled = join bs (byte 45) (one alnum then many (one alnum)) a (a + 1) e (omega arith) (omega arith) (byte-at bs 45 a l q refl) (run-some bs alnum (a + 1) e r k) }
 
   pub build-tag : (m e : ℕ) → getD bs a 0 ≡ 64 → Run-to letter bs (a + 1) m → a + 1 < m → m ≤ e → Spells (many subtag) (piece bs m e) → Is LANGTAG (piece bs a e)
-  build-tag m e q r k n u = let p = run-some bs letter (a + 1) m r k in record {
+  build-tag m e q r k n u = record {
     spelled = join bs (byte 64) (one letter then many (one letter) then many subtag) a (a + 1) e (omega arith) (omega arith) (byte-at bs 64 a l q refl)
         (join bs (one letter) (many (one letter) then many subtag) (a + 1) (a + 1 + 1) e (omega arith) (omega arith) (class-at bs letter (a + 1) (omega (arith, r .within)) (r .all (a + 1) (omega arith) k))
         (join bs (many (one letter)) (many subtag) (a + 1 + 1) m e (omega arith) n (run-spells bs letter (a + 1 + 1) m (record { forward = omega arith; within = r .within; all = λ j x y. r .all j (omega arith) y; past = r .past })) u));

@@ -1,9 +1,9 @@
 -- Where the states halt, a line of the grammar stops. Assumes nothing.
 use mathlib.Core.Path.{_≡_, refl, sym, ap, subst, _∙_}
-use mathlib.Core.Bool.{Bool, true, false, not}
+use mathlib.Core.Bool.{true, not}
 use mathlib.Core.List.{List, [], _∷_, _++_, append-assoc, append-nil}
 use mathlib.Core.Logic.{_⊎_, inl, inr, ⊎-elim}
-use Prim.Native.Nat.{ℕ, _+_, _<_, _≤_}
+use Prim.Native.Nat.{ℕ, _+_, _<_}
 use native.Mathlib.Omega.{arith}
 use lib.ListN.{length, getD, take}
 use Rattle.std.proofs.shelf.Tests.{both-ways}
@@ -12,7 +12,7 @@ use Rattle.grammar.specs.Regular.{Expr, never, Spells, Begins}
 use Rattle.grammar.specs.Productions.{full, part, line}
 use Rattle.grammar.specs.Places.{Goes-on, begins, slashed, Why, high, unicode, other, short, Stops}
 use Rattle.grammar.specs.Scanner as scan
-use Rattle.grammar.specs.Scanner.{Next, verb, thing, dot, Role, first, last, State, start, iri, slash, under, colon, label, before, string, escape, quoted, at, tag, hyphen, sub, caret, carets, ended, remark, uchar, dead, step, run, Sort, inner, between, done, slashes, escapes, letters, none, sort, plain, in-line, Stands, Slashed, in-iri, in-string, Halted, Halts}
+use Rattle.grammar.specs.Scanner.{Next, verb, thing, dot, first, last, State, start, iri, slash, under, colon, label, before, string, escape, quoted, at, tag, hyphen, sub, caret, carets, ended, remark, uchar, dead, step, run, Sort, inner, between, done, slashes, escapes, letters, none, sort, plain, in-line, Stands, Slashed, in-iri, in-string, Halted, Halts}
 use Rattle.grammar.proofs.Derivatives.{nullable, ders, ders-out, nullable-out, nullable-in}
 use Rattle.grammar.proofs.Residue.{left, lettered, every, if, if-so}
 use Rattle.grammar.proofs.Runs.{lives, step-in, run-out, run-part, run-full, left-low, not-full}

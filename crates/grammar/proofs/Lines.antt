@@ -1,16 +1,16 @@
 -- The line of a document at an offset, from where it ends. Assumes nothing.
-use mathlib.Core.Path.{_≡_, refl, sym, ap, subst, _∙_}
+use mathlib.Core.Path.{_≡_, sym, ap, subst, _∙_}
 use mathlib.Core.Bool.{Bool, true, false}
-use mathlib.Core.List.{List, [], _∷_, _++_, append-nil}
+use mathlib.Core.List.{List, [], _∷_, _++_}
 use Prim.Native.Nat.{ℕ, zero, suc, _+_, _-_, _<_, _≤_}
 use native.Mathlib.Omega.{arith}
-use lib.ListN.{length, getD, take, drop, take-append-drop}
+use lib.ListN.{length, getD, drop, take-append-drop}
 use lib.Dec.{leb}
 use Rattle.std.specs.Orderings.{When}
 use Rattle.std.proofs.shelf.Tests.{leb-true, leb-false}
 use Rattle.std.proofs.shelf.Lists.{drop-more, drop-drop, drop-all, length-drop}
 use Rattle.grammar.specs.Readings.{Reading, Reads}
-use Rattle.grammar.specs.Documents.{Ends-line, Unbroken, Ending, by, at-end, Cut, Line-at}
+use Rattle.grammar.specs.Documents.{Ends-line, Unbroken, by, at-end, Line-at}
 use Rattle.grammar.specs.Scanner.{piece}
 use Rattle.grammar.proofs.Slices.{piece-none, piece-one, piece-join, piece-length}
 

@@ -1,16 +1,16 @@
 -- What the scanner's states do at the bytes that the code tests. Assumes nothing.
-use mathlib.Core.Path.{_≡_, refl, sym, ap, _∙_}
+use mathlib.Core.Path.{_≡_, refl, ap, _∙_}
 use mathlib.Core.Bool.{true, false, cond}
 use mathlib.Core.List.{List}
-use mathlib.Core.Logic.{_⊎_, inl, inr}
+use mathlib.Core.Logic.{inl, inr}
 use Prim.Native.Nat.{ℕ, _+_, _<_}
-use lib.Dec.{leb, eqb}
+use lib.Dec.{eqb}
 use lib.ListN.{length, getD}
 use Rattle.std.proofs.shelf.Tests.{cond-true, cond-false, ne-eqb}
-use Rattle.grammar.specs.Regular.{Range, inside}
+use Rattle.grammar.specs.Regular.{inside}
 use Rattle.grammar.specs.Productions.{blank, letter, alnum, labelChar, iriChar, stringChar, escapeLetter, commentChar}
-use Rattle.grammar.specs.Scanner.{Next, verb, thing, dot, Role, follows, State, start, iri, slash, under, colon, label, before, string, escape, quoted, at, tag, hyphen, sub, caret, carets, ended, remark, dead, move, step, Sort, between, sort, plain, in-line, Stands, Slashed, in-iri, in-string, Stuck, Stuck-escape, Ended, Tagged, Run-to}
-use Rattle.grammar.proofs.Steps.{class-step, onward, by-byte, no-step, same-step, stuck-at, run-enters, run-stays, loops-label, loops-tag, loops-sub}
+use Rattle.grammar.specs.Scanner.{Next, verb, thing, dot, Role, follows, State, start, iri, slash, colon, label, before, string, escape, quoted, at, tag, hyphen, sub, carets, ended, remark, dead, move, step, plain, in-line, Stands, in-iri, in-string, Stuck, Stuck-escape, Ended, Tagged, Run-to}
+use Rattle.grammar.proofs.Steps.{class-step, onward, by-byte, no-step, same-step, run-enters, loops-label, loops-tag, loops-sub}
 
 -- a test that fails
 abbrev Not : ℕ → ℕ → Type 0
@@ -23,9 +23,6 @@ past c b t u h = cond-false (eqb c b) t u (ne-eqb c b h)
 pub no-iri : (n : Next) (c : ℕ) → inside iriChar c ≡ false → Not c 62 → Not c 92 → move (iri n) c ≡ dead
 no-iri n c e u v = cond-false (inside iriChar c) _ _ e ∙ past _ _ _ _ u ∙ past _ _ _ _ v
 
-pub no-under : (r : Role) (c : ℕ) → Not c 58 → move (under r) c ≡ dead
-no-under r c u = past _ _ _ _ u
-
 pub no-colon : (r : Role) (c : ℕ) → inside labelChar c ≡ false → move (colon r) c ≡ dead
 no-colon r c e = cond-false (inside labelChar c) _ _ e
 
@@ -37,9 +34,6 @@ no-at c e = cond-false (inside letter c) _ _ e
 
 pub no-hyphen : (c : ℕ) → inside alnum c ≡ false → move hyphen c ≡ dead
 no-hyphen c e = cond-false (inside alnum c) _ _ e
-
-pub no-caret : (c : ℕ) → Not c 94 → move caret c ≡ dead
-no-caret c u = past _ _ _ _ u
 
 pub no-carets : (c : ℕ) → Not c 60 → move carets c ≡ dead
 no-carets c u = past _ _ _ _ u

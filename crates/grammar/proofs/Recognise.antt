@@ -1,6 +1,6 @@
 -- A text on its own that is, or is not, a term. Assumes nothing.
 use mathlib.Core.Path.{_≡_, refl, sym, ap, subst, _∙_}
-use mathlib.Core.Bool.{Bool, true, false, not}
+use mathlib.Core.Bool.{true, false, not}
 use mathlib.Core.List.{List, [], _∷_, _++_, append-assoc, append-nil}
 use mathlib.Core.Logic.{inl, ⊎-elim}
 use Prim.Native.Nat.{ℕ, _+_, _-_, _<_, _≤_}
@@ -12,7 +12,7 @@ use Rattle.std.proofs.shelf.Lists.{take-all, drop-more}
 use Rattle.grammar.specs.Regular.{Expr, to, inside, never, Spells, Is, stop}
 use Rattle.grammar.specs.Productions.{part, blank, object}
 use Rattle.grammar.specs.Scanner as scan
-use Rattle.grammar.specs.Scanner.{thing, dot, State, before, dead, step, run, sort, in-term, Stands, Halted, Halts, Ended, piece}
+use Rattle.grammar.specs.Scanner.{thing, dot, State, before, step, run, sort, in-term, Stands, Halted, Halts, Ended, piece}
 use Rattle.grammar.proofs.Classes.{in-left}
 use Rattle.grammar.proofs.Derivatives.{nullable, der, der-is, nullable-in}
 use Rattle.grammar.proofs.Residue.{left, every, if, if-so}

@@ -1,16 +1,15 @@
 -- The states of Scanner are what is left of the grammar. Assumes nothing.
-use mathlib.Core.Path.{_≡_, refl, sym, ap, subst, _∙_}
+use mathlib.Core.Path.{_≡_, refl, subst}
 use mathlib.Core.Bool.{Bool, true, false, cond, _&&_, _||_, not}
-use mathlib.Core.List.{List, [], _∷_, _++_, map}
-use mathlib.Core.Logic.{_⊎_, inl, inr, ⊎-elim}
+use mathlib.Core.List.{List, [], _∷_, map}
+use mathlib.Core.Logic.{⊎-elim}
 use Prim.Native.Nat.{ℕ, zero, suc, _+_, _<_, _≤_}
 use native.Mathlib.Omega.{arith}
-use lib.Dec.{leb}
-use Rattle.std.proofs.shelf.Tests.{both-ways, and-parts, cases-order, cases-lt, lt-leb, cond-false}
-use Rattle.grammar.specs.Regular.{Expr, never, empty, one, _then_, _or_, many, Spells}
+use Rattle.std.proofs.shelf.Tests.{both-ways, and-parts, cases-order}
+use Rattle.grammar.specs.Regular.{Expr, never, empty, one, _then_, _or_, many}
 use Rattle.grammar.specs.Productions.{Extent, full, part, byte, hex, letter, alnum, labelChar, iriChar, stringChar, escapeLetter, commentChar, UCHAR, ECHAR, IRIREF, WS, comment, object, suffix, line}
-use Rattle.grammar.specs.Scanner.{Next, verb, thing, dot, Role, first, last, follows, State, start, iri, slash, under, colon, label, before, string, escape, quoted, at, tag, hyphen, sub, caret, carets, ended, remark, uchar, dead, move, step, run, Sort, inner, between, done, slashes, escapes, letters, none, sort}
-use Rattle.grammar.proofs.Derivatives.{nullable, der, ders, der-is, ders-out, nullable-out, lowExpr, low-first}
+use Rattle.grammar.specs.Scanner.{Next, verb, thing, dot, first, last, follows, State, start, iri, slash, under, colon, label, before, string, escape, quoted, at, tag, hyphen, sub, caret, carets, ended, remark, uchar, dead, step, Sort, inner, between, done, slashes, escapes, letters, none, sort}
+use Rattle.grammar.proofs.Derivatives.{der}
 
 abbrev after : Extent → Next → Expr
 after x verb = WS then IRIREF x then WS then object x then WS then byte 46

@@ -84,10 +84,6 @@ step-dead c = go (leb c 127)
     go true = refl
     go false = refl
 
-pub run-dead : (u : List ℕ) → run dead u ≡ dead
-run-dead [] = refl
-run-dead (c ∷ u) = ap (λ s. run s u) (step-dead c) ∙ run-dead u
-
 live-step : (s : State) (c : ℕ) → lives (sort (step s c)) ≡ true → lives (sort s) ≡ true
 live-step start c h = refl
 live-step (iri n) c h = refl

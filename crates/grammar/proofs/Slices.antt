@@ -1,13 +1,13 @@
 -- Pieces of a line, and what they spell. Assumes nothing.
-use mathlib.Core.Path.{_≡_, refl, sym, ap, subst, _∙_}
+use mathlib.Core.Path.{_≡_, sym, ap, subst, _∙_}
 use mathlib.Core.Bool.{true}
 use mathlib.Core.List.{List, [], _∷_, _++_, append-assoc, append-nil}
-use mathlib.Core.Logic.{_⊎_, inl, inr}
+use mathlib.Core.Logic.{inl}
 use Prim.Native.Nat.{ℕ, zero, suc, _+_, _-_, _<_, _≤_}
 use native.Mathlib.Omega.{arith}
 use lib.ListN.{length, getD, take, drop, take-append-drop}
 use Rattle.std.proofs.shelf.Lists.{drop-more, drop-drop, take-take, drop-take, take-all, length-drop}
-use Rattle.grammar.specs.Regular.{Range, to, inside, Expr, one, _then_, _or_, many, Star, stop, more, Spells, Is}
+use Rattle.grammar.specs.Regular.{Range, to, inside, Expr, one, _then_, _or_, many, Star, stop, more, Spells}
 use Rattle.grammar.specs.Scanner.{piece, Run-to}
 
 pub piece-none : (bs : List ℕ) (a : ℕ) → piece bs a a ≡ []

@@ -1,11 +1,10 @@
 -- A run of bytes that satisfy a predicate, up to a byte that does not, is unique. Assumes nothing.
-use mathlib.Core.Path.{_≡_, refl, sym, ap, subst, _∙_}
-use mathlib.Core.Bool.{true, false}
+use mathlib.Core.Path.{_≡_, refl, sym, subst}
+use mathlib.Core.Bool.{true}
 use mathlib.Core.List.{List, [], _∷_, _++_}
 use Prim.Native.Nat.{ℕ}
 use native.Mathlib.Omega.{arith}
-use Rattle.std.proofs.shelf.Tests.{both-ways}
-use Rattle.grammar.specs.Regular.{Range, inside, one, many, Star, stop, more, Spells}
+use Rattle.grammar.specs.Regular.{Range, inside, one}
 
 pub no-cons : (c : ℕ) (s : List ℕ) → c ∷ s ≡ [] → ⊥
 no-cons c s e = let z : _≡_ {A = ℕ} 0 1 = cc in omega arith
@@ -30,23 +29,6 @@ module _ (P Q : ℕ → Type 0) (apart : (c : ℕ) → P c → Q c → ⊥) wher
       let h = one-run m n x y (a .1) (b .1) f g t in
       (cc (h .0), h .1)
 
--- the byte is in the class, or is not
+-- the byte is in the class
 abbrev pub In : List Range → ℕ → Type 0
 In rs c = inside rs c ≡ true
-
-abbrev pub Not-in : List Range → ℕ → Type 0
-Not-in rs c = inside rs c ≡ false
-
-pub one-span : (rs : List Range) (m n x y : List ℕ) → All (In rs) m → All (In rs) n → First (Not-in rs) x → First (Not-in rs) y → m ++ x ≡ n ++ y → (m ≡ n) × (x ≡ y)
-one-span rs = one-run (In rs) (Not-in rs) (λ c h k. both-ways (inside rs c) k h)
-
--- `many (one rs)` spells the lists of bytes of the class
-pub many-in : (rs : List Range) (u : List ℕ) → All (In rs) u → Spells (many (one rs)) u
-many-in rs [] a = stop
-many-in rs (c ∷ u) a = more (c ∷ []) u refl (c, refl, a .0) (many-in rs u (a .1))
-
-pub many-out : (rs : List Range) (u : List ℕ) → Star (Spells (one rs)) u → All (In rs) u
-many-out rs u stop = tt
-many-out rs u (more s t e (c, f, h) k) =
-    let i : u ≡ c ∷ t = e ∙ ap (λ l. l ++ t) f in
-    subst (All (In rs)) (sym i) (h, many-out rs t k)

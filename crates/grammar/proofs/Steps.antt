@@ -1,7 +1,7 @@
 -- One step of the scanner, or a run of bytes of a class, at an offset of its line. Assumes nothing.
-use mathlib.Core.Path.{_≡_, refl, sym, ap, subst, _∙_}
+use mathlib.Core.Path.{_≡_, refl, ap, subst, _∙_}
 use mathlib.Core.Bool.{Bool, true, false, cond, _&&_}
-use mathlib.Core.List.{List, [], _∷_, _++_}
+use mathlib.Core.List.{List, [], _∷_}
 use mathlib.Core.Logic.{_⊎_, inl, inr, ⊎-elim}
 use Prim.Native.Nat.{ℕ, zero, suc, _+_, _-_, _<_, _≤_}
 use native.Mathlib.Omega.{arith}
@@ -12,7 +12,7 @@ use Rattle.std.proofs.shelf.Lists.{take-more}
 use Rattle.grammar.specs.Regular.{Range, inside}
 use Rattle.grammar.specs.Productions.{blank, letter, alnum, labelChar, iriChar, stringChar, ucharLetter, commentChar}
 use Rattle.grammar.specs.Scanner as scan
-use Rattle.grammar.specs.Scanner.{Next, verb, thing, dot, Role, follows, State, start, iri, slash, under, colon, label, before, string, escape, quoted, at, tag, hyphen, sub, caret, carets, ended, remark, dead, move, step, run, Sort, inner, between, done, slashes, escapes, letters, none, sort, plain, in-term, in-line, Stands, Slashed, in-iri, in-string, Halted, Halts, Stuck, Stuck-escape, Ended, Tagged, Run-to}
+use Rattle.grammar.specs.Scanner.{Next, verb, thing, dot, Role, State, start, iri, label, before, string, at, tag, sub, ended, remark, dead, move, step, run, Sort, inner, between, done, slashes, escapes, letters, none, sort, plain, in-term, in-line, Stands, Slashed, in-iri, in-string, Halted, Halts, Stuck, Stuck-escape, Ended, Run-to}
 use Rattle.grammar.proofs.Derivatives.{lowRanges, low-inside}
 use Rattle.grammar.proofs.Runs.{run-append}
 

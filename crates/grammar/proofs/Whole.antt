@@ -1,25 +1,21 @@
 -- Whole lines put together from their parts. Assumes nothing.
-use mathlib.Core.Path.{_≡_, refl, sym, ap, subst, _∙_}
+use mathlib.Core.Path.{_≡_, refl, sym, ap, _∙_}
 use mathlib.Core.List.{List, [], _∷_, _++_, append-assoc, append-nil}
 use mathlib.Core.Logic.{inl, inr}
 use Prim.Native.Nat.{ℕ, _+_, _<_, _≤_}
 use native.Mathlib.Omega.{arith}
 use lib.ListN.{length, getD}
-use Rattle.grammar.specs.Regular.{_then_, stop, Spells, Is}
+use Rattle.grammar.specs.Regular.{_then_, Spells, Is}
 use Rattle.grammar.specs.Productions.{part, WS, comment, subject, predicate, object, rest, line}
 use Rattle.grammar.specs.Readings.{Term, Fits, Holds}
 use Rattle.grammar.specs.Scanner.{piece}
-use Rattle.grammar.proofs.Slices.{piece-none, piece-one, piece-join, piece-whole, piece-length}
+use Rattle.grammar.proofs.Slices.{piece-one, piece-join, piece-whole, piece-length}
 
 pub blank-line : (bs : List ℕ) → Spells WS bs → Spells (line part) bs
 blank-line bs h = (bs, [], sym (append-nil bs), h, ([], [], refl, inl refl, inl refl))
 
 pub comment-line : (bs : List ℕ) → Spells (WS then comment) bs → Spells (line part) bs
 comment-line bs (w, c, e, x, y) = (w, c, e, x, ([], c, refl, inl refl, inr y))
-
--- what may follow the dot, on its own, is a line without a triple
-pub rest-line : (bs : List ℕ) → Spells rest bs → Spells (line part) bs
-rest-line bs (w, c, e, x, y) = (w, c, e, x, ([], c, refl, inl refl, y))
 
 pub holds-line : (base : ℕ) (bs : List ℕ) (at : ℕ) (s p o : Term) → Holds base bs at s p o → Spells (line part) bs
 holds-line base bs at s p o h = go (h .tail) (h .ends) (h .split)

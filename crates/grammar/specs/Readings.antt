@@ -1,6 +1,6 @@
 -- What a line is read as: a triple with its three terms, a comment, nothing, or a fault. Assumes nothing.
 use mathlib.Core.Path.{_≡_}
-use mathlib.Core.List.{List, [], _∷_, _++_}
+use mathlib.Core.List.{List, _∷_, _++_}
 use Prim.Native.Nat.{ℕ, _+_}
 use lib.ListN.{length}
 use Rattle.grammar.specs.Regular.{Expr, Spells, _then_}

@@ -1,6 +1,6 @@
 -- The first and the last byte of a line with its end tell a bare LF, and a line that ends in CR. Assumes nothing.
-use mathlib.Core.Path.{_≡_, refl, sym, ap, subst, _∙_}
-use mathlib.Core.Bool.{Bool, true, false}
+use mathlib.Core.Path.{_≡_, refl, sym, ap, _∙_}
+use mathlib.Core.Bool.{true, false}
 use mathlib.Core.List.{List, [], _∷_, _++_}
 use mathlib.Core.Logic.{inl, inr}
 use Prim.Native.Nat.{ℕ, zero, suc, _+_, _-_, _<_, _≤_}
@@ -27,13 +27,13 @@ some-from [] e a some (at-end h) = absurd (some h)
 some-from (c ∷ bs) e a some h = omega arith
 
 first-byte : (n : ℕ) (r : Reading) (bs e a : List ℕ) → (bs ++ (e ++ a) ≡ [] → ⊥) → Unbroken bs → Ending a e
-  → bare-lf (row-of n r bs e) ≡ eqb (getD (bs ++ (e ++ a)) 0 0) 10
+    → bare-lf (row-of n r bs e) ≡ eqb (getD (bs ++ (e ++ a)) 0 0) 10
 first-byte n r [] e a some u (by c h) = refl
 first-byte n r [] e a some u (at-end h) = absurd (some h)
 first-byte n r (c ∷ bs) e a some u h = sym (ne-eqb c 10 (λ q. u .0 (inl q)))
 
 last-byte : (n : ℕ) (r : Reading) (bs e a : List ℕ) → (bs ++ (e ++ a) ≡ [] → ⊥) → Unbroken bs → Ending a e
-  → ends-in 13 (row-of n r bs e) ≡ eqb (getD (bs ++ (e ++ a)) (length bs + length e - 1) 0) 13
+    → ends-in 13 (row-of n r bs e) ≡ eqb (getD (bs ++ (e ++ a)) (length bs + length e - 1) 0) 13
 last-byte n r bs e a some u (by c h) = ap (λ d. eqb d 13) (sym (getD-at bs c a 0 (length bs + 1 - 1) (omega arith)))
 last-byte n r [] e a some u (at-end h) = absurd (some h)
 last-byte n r (c ∷ bs) e a some u (at-end h) =

@@ -1,6 +1,6 @@
 -- A line gets one verdict, and so do lines. Assumes nothing.
 use mathlib.Core.Path.{_≡_, refl, sym, _∙_}
-use mathlib.Core.List.{List, [], _∷_}
+use mathlib.Core.List.{List}
 use Rattle.grammar.specs.Readings.{Term, Reading, a-triple, a-comment, nothing, a-fault}
 use Rattle.grammar.specs.Documents.{Row}
 use Rattle.linter.specs.Verdicts.{Verdict, Judged, Judged-triple, short, long-subject, long-predicate, long-object, Verdicts, none, more}

@@ -1,5 +1,5 @@
 -- One verdict more, and what a survey tells then. Assumes nothing.
-use mathlib.Core.Path.{_≡_, refl, sym, ap, _∙_}
+use mathlib.Core.Path.{_≡_, sym, ap, _∙_}
 use mathlib.Core.Bool.{Bool, true, false, cond}
 use mathlib.Core.List.{List, [], _∷_, _++_, map, append-assoc}
 use Prim.Native.Nat.{ℕ, _+_, _^_, _<_, _≤_}
@@ -13,7 +13,7 @@ use Rattle.linter.specs.declared.verdict.Verdict.{Verdict as Answer}
 use Rattle.linter.specs.declared.verdict.Verdict.the-variants.{Triple, Comment, Empty, Refused}
 use Rattle.linter.specs.Adding.{Room, findings-with, Added}
 use Rattle.linter.specs.Answers.{verdict, found, Tells}
-use Rattle.linter.specs.Verdicts.{Verdict, count, is-a-triple, is-a-comment, is-nothing, Found, refusal, refusals}
+use Rattle.linter.specs.Verdicts.{Verdict, count, is-a-triple, is-a-comment, is-nothing, refusal, refusals}
 
 count-more : (p : Verdict → Bool) (vs : List Verdict) (v : Verdict) → count p (vs ++ v ∷ []) ≡ count p vs + cond (p v) 1 0
 count-more p [] v = omega arith
@@ -49,13 +49,13 @@ module _ (vs : List Verdict) (s : Survey) (h : Tells vs s) where
         with-comment = omega (arith, a .comment, h .with-comment, count-more is-a-comment vs (verdict v));
         with-nothing = omega (arith, a .empty-line, h .with-nothing, count-more is-nothing vs (verdict v));
         found-are = ap (map found) (a .refusal-at) ∙ found-with (vec-items (s .findings)) (s .lines + 1) v
-          ∙ ap (λ u. u ++ refusal (s .lines + 1) (verdict v)) (h .found-are) ∙ ap (λ n. refusals 1 vs ++ refusal n (verdict v)) z ∙ sym (refusals-more 1 vs (verdict v));
+            ∙ ap (λ u. u ++ refusal (s .lines + 1) (verdict v)) (h .found-are) ∙ ap (λ n. refusals 1 vs ++ refusal n (verdict v)) z ∙ sym (refusals-more 1 vs (verdict v));
       }
 
   pub tells-room : length vs + 1 < 2 ^ 64 → Room s
   tells-room few = record {
-      of-lines = omega (arith, h .all);
-      of-triples = omega (arith, h .all, h .with-triple, count-most is-a-triple vs);
-      of-comments = omega (arith, h .all, h .with-comment, count-most is-a-comment vs);
-      of-empty = omega (arith, h .all, h .with-nothing, count-most is-nothing vs);
-    }
+    of-lines = omega (arith, h .all);
+    of-triples = omega (arith, h .all, h .with-triple, count-most is-a-triple vs);
+    of-comments = omega (arith, h .all, h .with-comment, count-most is-a-comment vs);
+    of-empty = omega (arith, h .all, h .with-nothing, count-most is-nothing vs);
+  }

@@ -2,7 +2,7 @@
 use mathlib.Core.Path.{_≡_, refl, sym, ap, subst, _∙_}
 use mathlib.Core.Bool.{Bool, true, false, cond, _&&_}
 use mathlib.Core.List.{List, [], _∷_, _++_, append-assoc}
-use Prim.Native.Nat.{ℕ, _+_, _-_, _<_, _≤_}
+use Prim.Native.Nat.{ℕ, _-_, _≤_}
 use native.Mathlib.Omega.{arith}
 use lib.Dec.{eqb}
 use lib.ListN.{length, getD, drop}
@@ -49,31 +49,31 @@ module _ (text : List ℕ) (pos : ℕ) (r : Reading) (next : ℕ) (after-cr : Bo
   -- past the LF of CR LF
   pub passed : true ≡ (after-cr && eqb (getD text pos 0) 10) → Walked text next cr s
   passed half = record {
-      seen = w .seen;
-      tells = w .tells;
-      few = omega (arith, w .few, lengths text pos r next l .0);
-      within = lengths text pos r next l .1;
-      completes = λ rest vs ls vd.
+    seen = w .seen;
+    tells = w .tells;
+    few = omega (arith, w .few, lengths text pos r next l .0);
+    within = lengths text pos r next l .1;
+    completes = λ rest vs ls vd.
         let e : (after-cr && bare-lf row) ≡ true = ap (λ b. after-cr && b) (bare-is text pos r next l) ∙ sym half in
         let f : cr ≡ false = sym (cr-is text pos r next l) ∙ bare-not-cr pos r (l .bs) (l .ending) (and-parts after-cr (bare-lf row) e .1) in
         w .completes (row ∷ rest) vs (longer rest ls)
         (subst (λ b. Verdicts (cond b (shown false rest) (row ∷ shown (ends-in 13 row) rest)) vs) (sym e) (subst (λ b. Verdicts (shown b rest) vs) f vd));
-    }
+  }
 
   -- past a line that is shown, with its verdict
   pub counted : (t : Survey) (v : Answer) → Judged r (verdict v) → Added v s t → false ≡ (after-cr && eqb (getD text pos 0) 10) → Walked text next cr t
   counted t v j a whole = record {
-      seen = w .seen ++ verdict v ∷ [];
-      tells = tells-more (w .seen) s (w .tells) v t a;
-      few = omega (arith, length-push (w .seen) (verdict v), w .few, lengths text pos r next l .0);
-      within = lengths text pos r next l .1;
-      completes = λ rest vs ls vd.
+    seen = w .seen ++ verdict v ∷ [];
+    tells = tells-more (w .seen) s (w .tells) v t a;
+    few = omega (arith, length-push (w .seen) (verdict v), w .few, lengths text pos r next l .0);
+    within = lengths text pos r next l .1;
+    completes = λ rest vs ls vd.
         let e : (after-cr && bare-lf row) ≡ false = ap (λ b. after-cr && b) (bare-is text pos r next l) ∙ sym whole in
         subst (Surveyed text) (sym (append-assoc (w .seen) (verdict v ∷ []) vs))
         (w .completes (row ∷ rest) (verdict v ∷ vs) (longer rest ls)
-         (subst (λ b. Verdicts (cond b (shown false rest) (row ∷ shown (ends-in 13 row) rest)) (verdict v ∷ vs)) (sym e)
-          (verdicts.more j (subst (λ b. Verdicts (shown b rest) vs) (sym (cr-is text pos r next l)) vd))));
-    }
+        (subst (λ b. Verdicts (cond b (shown false rest) (row ∷ shown (ends-in 13 row) rest)) (verdict v ∷ vs)) (sym e)
+        (verdicts.more j (subst (λ b. Verdicts (shown b rest) vs) (sym (cr-is text pos r next l)) vd))));
+  }
 
 module _ (text : List ℕ) (pos : ℕ) (after-cr : Bool) (s : Survey) (w : Walked text pos after-cr s) (ended : length text ≤ pos) where
   pub surveyed : Surveyed text (w .seen)

@@ -23,7 +23,13 @@ impl Survey {
     pub(crate) fn new(heap: Global) -> Survey
         ensures { λ r. ⌜ Tells [] r ⌝ }
     {
-        Survey { lines: 0, triples: 0, comments: 0, empty: 0, findings: Vec::new(heap) }
+        Survey {
+            lines: 0,
+            triples: 0,
+            comments: 0,
+            empty: 0,
+            findings: Vec::new(heap),
+        }
     }
 
     // Counts one line more, with its verdict.
@@ -36,7 +42,12 @@ impl Survey {
             Verdict::Triple => self.triples += 1,
             Verdict::Comment => self.comments += 1,
             Verdict::Empty => self.empty += 1,
-            Verdict::Refused(refusal, offset) => self.findings.push(Finding { line: self.lines, refusal, offset })?,
+            Verdict::Refused(refusal, offset) => self.findings
+                .push(Finding {
+                    line: self.lines,
+                    refusal,
+                    offset,
+                })?,
         }
         Ok(())
     }

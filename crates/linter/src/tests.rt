@@ -21,9 +21,17 @@ fn first_finding(s: &Survey) -> Option<Told> {
 }
 
 // The counts are of lines, triples, comments, empty lines and findings.
-fn expect(heap: Global, text: &[u8], counts: [usize; 5], finding: Option<Told>) -> Result<(), Fail> {
+fn expect(
+    heap: Global,
+    text: &[u8],
+    counts: [usize; 5],
+    finding: Option<Told>,
+) -> Result<(), Fail> {
     let s = survey(heap, text)?;
-    check_eq([s.lines, s.triples, s.comments, s.empty, s.findings.len()], counts)?;
+    check_eq(
+        [s.lines, s.triples, s.comments, s.empty, s.findings.len()],
+        counts,
+    )?;
     check_eq(first_finding(&s), finding)
 }
 
@@ -51,9 +59,24 @@ fn counts(rt: LibcRuntime) -> Result<(), Fail> {
 #[test]
 fn findings(rt: LibcRuntime) -> Result<(), Fail> {
     let heap = rt.alloc();
-    expect(heap, b"<s> <p> \"\xC3\xA9\" .\n", [1, 0, 0, 0, 1], Some((1, 1, 9)))?;
-    expect(heap, b"# c\r\n<s> <p> \"\\u0041\" .\n", [2, 0, 1, 0, 1], Some((2, 2, 15)))?;
-    expect(heap, b"\n\n<s> <p> .\n<s>", [4, 0, 0, 2, 2], Some((3, 3, 10)))
+    expect(
+        heap,
+        b"<s> <p> \"\xC3\xA9\" .\n",
+        [1, 0, 0, 0, 1],
+        Some((1, 1, 9)),
+    )?;
+    expect(
+        heap,
+        b"# c\r\n<s> <p> \"\\u0041\" .\n",
+        [2, 0, 1, 0, 1],
+        Some((2, 2, 15)),
+    )?;
+    expect(
+        heap,
+        b"\n\n<s> <p> .\n<s>",
+        [4, 0, 0, 2, 2],
+        Some((3, 3, 10)),
+    )
 }
 
 #[test]
@@ -66,7 +89,11 @@ fn long_spellings(rt: LibcRuntime) -> Result<(), Fail> {
 }
 
 fn prints(heap: Global, refusal: Refusal, want: &str) -> Result<(), Fail> {
-    let finding = Finding { line: 3, refusal, offset: 57 };
+    let finding = Finding {
+        line: 3,
+        refusal,
+        offset: 57,
+    };
     let text = finding.to_string(heap)?;
     check_eq(text.as_str(), want)
 }
@@ -74,8 +101,24 @@ fn prints(heap: Global, refusal: Refusal, want: &str) -> Result<(), Fail> {
 #[test]
 fn sentences(rt: LibcRuntime) -> Result<(), Fail> {
     let heap = rt.alloc();
-    prints(heap, Refusal::Fault(FaultKind::HighByte), "line 3, offset 57: refused 1: a byte above 127 stands here")?;
-    prints(heap, Refusal::Fault(FaultKind::UnicodeEscape), "line 3, offset 57: refused 2: the escapes \\u and \\U are not read")?;
-    prints(heap, Refusal::Fault(FaultKind::Unexpected), "line 3, offset 57: refused 3: the line cannot go on here")?;
-    prints(heap, Refusal::TooLong(TooLong), "line 3, offset 57: refused 4: the spelling of this term has more than 255 bytes")
+    prints(
+        heap,
+        Refusal::Fault(FaultKind::HighByte),
+        "line 3, offset 57: refused 1: a byte above 127 stands here",
+    )?;
+    prints(
+        heap,
+        Refusal::Fault(FaultKind::UnicodeEscape),
+        "line 3, offset 57: refused 2: the escapes \\u and \\U are not read",
+    )?;
+    prints(
+        heap,
+        Refusal::Fault(FaultKind::Unexpected),
+        "line 3, offset 57: refused 3: the line cannot go on here",
+    )?;
+    prints(
+        heap,
+        Refusal::TooLong(TooLong),
+        "line 3, offset 57: refused 4: the spelling of this term has more than 255 bytes",
+    )
 }

@@ -17,7 +17,7 @@ fn main(rt: LibcRuntime) -> Result<(), AnyError> {
     let unreadable = found.findings.len();
     println!(
         rt,
-        "{lines} lines: {triples} triples, {comments} comments, {empty} empty, {unreadable} that cannot be read"
+        "lines: {lines}, triples: {triples}, comments: {comments}, empty: {empty}, cannot be read: {unreadable}"
     )?;
     for finding in found.findings.iter() {
         println!(rt, "{finding}")?;

@@ -12,7 +12,6 @@ use Rattle.ntriples.specs.declared.token.Token.the-variants.{Iri, Label, Liter
 use Rattle.ntriples.specs.declared.term.NameForm.{NameForm}
 use Rattle.ntriples.specs.declared.term.NameForm.the-variants.{Iri as NameIri, Literal as NameLiteral}
 use Rattle.ntriples.specs.declared.token.Located.{Located}
-use Rattle.ntriples.specs.declared.token.Statement.{Statement}
 use Rattle.ntriples.specs.declared.token.Line.{Line}
 use Rattle.ntriples.specs.declared.token.Line.the-variants.{Triple, Comment, Empty}
 

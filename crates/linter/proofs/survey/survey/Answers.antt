@@ -27,9 +27,10 @@ loop-line-again c =
     let l = c .in-Some .ensures tt .reads in
     let before = c .loop-line .inv in
     elim (c .if-not-is-half-of-pair .came) [
-      then-not-is-half-of-pair·in-Continue-add w ↦
-        rw (w .survey-is) (counted _ _ _ _ _ _ l before (w .add .last .self) (w .judge .result) (w .judge .ensures .judged) (w .in-Continue-add .ensures tt) (w .if-not-is-half-of-pair .ensures tt))
-    | else-not-is-half-of-pair w ↦ rw (w .survey-is) (passed _ _ _ _ _ _ l before (w .if-not-is-half-of-pair .ensures tt)) ]
+      | then-not-is-half-of-pair·in-Continue-add w ↦
+          rw (w .survey-is) (counted _ _ _ _ _ _ l before (w .add .last .self) (w .judge .result) (w .judge .ensures .judged) (w .in-Continue-add .ensures tt) (w .if-not-is-half-of-pair .ensures tt))
+      | else-not-is-half-of-pair w ↦ rw (w .survey-is) (passed _ _ _ _ _ _ l before (w .if-not-is-half-of-pair .ensures tt))
+    ]
 
 pub returns : need.returns
 returns c =

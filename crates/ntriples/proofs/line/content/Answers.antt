@@ -4,7 +4,7 @@ use lib.ListN.{length}
 use Rattle.std.proofs.shelf.Results.{err-from-errBy}
 use Rattle.grammar.specs.Regular.{Spells, _then_}
 use Rattle.grammar.specs.Productions.{blank, WS, comment}
-use Rattle.grammar.specs.Scanner.{start, remark, in-line, piece}
+use Rattle.grammar.specs.Scanner.{start, remark, piece}
 use Rattle.grammar.proofs.Slices.{piece-whole, join, run-spells}
 use Rattle.grammar.proofs.Steps.{run-stays, loops-start, by-byte}
 use Rattle.grammar.proofs.Whole.{blank-line, comment-line}

@@ -1,5 +1,4 @@
 use mathlib.Core.Path.{refl}
-use native.Mathlib.Omega.{arith}
 use Rattle.std.proofs.shelf.Results.{err-from-errBy}
 use Rattle.grammar.specs.Scanner.{verb, thing, iri, in-line}
 use Rattle.grammar.proofs.Steps.{wider, before-ended}

@@ -1,13 +1,12 @@
-use mathlib.Core.Path.{_≡_, refl, sym, subst}
+use mathlib.Core.Path.{refl, sym, subst}
 use Prim.Native.Nat.{_+_}
 use native.Mathlib.Omega.{arith}
-use lib.ListN.{length, getD}
 use Rattle.std.proofs.shelf.Results.{cases-weaker, err-from-errBy}
 use Rattle.grammar.specs.Regular.{Is}
 use Rattle.grammar.specs.Productions.{part, IRIREF}
 use Rattle.grammar.specs.Scanner.{Stands, dot, iri, caret, carets, in-term, piece}
 use Rattle.grammar.proofs.Steps.{stuck-at, by-byte, before-ended}
-use Rattle.grammar.proofs.Moves.{no-caret, no-carets}
+use Rattle.grammar.proofs.Moves.{no-carets}
 use Rattle.grammar.proofs.Builds.{build-datatype}
 use Rattle.ntriples.proofs.scan.datatype_end.Needs as need
 

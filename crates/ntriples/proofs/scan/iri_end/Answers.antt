@@ -1,7 +1,7 @@
-use mathlib.Core.Path.{_≡_, refl, sym, subst}
-use Prim.Native.Nat.{_+_, _<_}
+use mathlib.Core.Path.{refl, sym, subst}
+use Prim.Native.Nat.{_+_}
 use native.Mathlib.Omega.{arith}
-use lib.ListN.{length, getD}
+use lib.ListN.{getD}
 use Rattle.std.proofs.shelf.Results.{cases-weaker}
 use Rattle.grammar.specs.Regular.{Is}
 use Rattle.grammar.specs.Productions.{part, IRIREF, iriChar}

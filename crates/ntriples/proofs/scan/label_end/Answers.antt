@@ -1,9 +1,9 @@
-use mathlib.Core.Path.{_≡_, refl, sym, subst}
+use mathlib.Core.Path.{_≡_, refl, subst}
 use Prim.Native.Nat.{_+_, _<_}
 use native.Mathlib.Omega.{arith}
-use lib.ListN.{length, getD}
+use lib.ListN.{getD}
 use Rattle.grammar.specs.Productions.{labelChar}
-use Rattle.grammar.specs.Scanner.{Role, State, Stands, under, colon, in-term, Run-to}
+use Rattle.grammar.specs.Scanner.{Stands, under, colon, in-term, Run-to}
 use Rattle.grammar.proofs.Steps.{stuck-at, by-byte}
 use Rattle.grammar.proofs.Moves.{no-colon, label-run}
 use Rattle.grammar.proofs.Builds.{build-label}

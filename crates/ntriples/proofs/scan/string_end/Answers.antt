@@ -9,7 +9,7 @@ use Rattle.grammar.specs.Scanner.{Stands, string, quoted, in-term, piece}
 use Rattle.grammar.proofs.Slices.{none-yet}
 use Rattle.grammar.proofs.Steps.{run-stays, loops-string, stuck-at, by-byte}
 use Rattle.grammar.proofs.Moves.{no-string}
-use Rattle.grammar.proofs.Builds.{units, build-string, more-plain, more-escape}
+use Rattle.grammar.proofs.Builds.{build-string, more-plain, more-escape}
 use Rattle.ntriples.proofs.scan.string_end.Needs as need
 use Rattle.ntriples.proofs.scan.string_end.Needs.{then-loop-pos-test·else-line-pos-eq92, else-loop-pos-test}
 

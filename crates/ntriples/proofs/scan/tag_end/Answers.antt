@@ -1,7 +1,7 @@
-use mathlib.Core.Path.{_≡_, refl, sym, subst}
+use mathlib.Core.Path.{_≡_, refl, subst}
 use Prim.Native.Nat.{_+_}
 use native.Mathlib.Omega.{arith}
-use lib.ListN.{length, getD}
+use lib.ListN.{getD}
 use Rattle.grammar.specs.Productions.{subtag}
 use Rattle.grammar.specs.Scanner.{Stands, at, in-term}
 use Rattle.grammar.proofs.Slices.{none-yet}

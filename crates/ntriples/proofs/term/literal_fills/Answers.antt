@@ -1,11 +1,10 @@
-use mathlib.Core.Bool.{true, false}
-use mathlib.Core.Path.{_≡_, refl, sym}
-use mathlib.Core.List.{[], _∷_}
-use mathlib.Core.Logic.{inl, inr}
+use mathlib.Core.Bool.{false}
+use mathlib.Core.Path.{refl, sym}
+use mathlib.Core.Logic.{inr}
 use native.Mathlib.Omega.{arith}
 use Rattle.std.proofs.shelf.Tests.{both-ways, eqb-true}
 use Rattle.grammar.specs.Productions.{part, literal}
-use Rattle.grammar.specs.Scanner.{thing, dot, before, string}
+use Rattle.grammar.specs.Scanner.{thing, before, string}
 use Rattle.grammar.proofs.Steps.{by-byte}
 use Rattle.grammar.proofs.Recognise.{is-all, not-all, not-stuck, first-is}
 use Rattle.ntriples.proofs.term.literal_fills.Needs as need

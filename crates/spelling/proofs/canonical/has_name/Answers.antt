@@ -1,5 +1,5 @@
-use mathlib.Core.Bool.{true, false}
-use mathlib.Core.Path.{_≡_, refl, sym, subst}
+use mathlib.Core.Bool.{false}
+use mathlib.Core.Path.{refl, sym, subst}
 use Rattle.std.proofs.shelf.Tests.{both-ways}
 use Rattle.ntriples.specs.Answers.{kind-of, bytes-of}
 use Rattle.spelling.specs.Names.{Name, Denotes}

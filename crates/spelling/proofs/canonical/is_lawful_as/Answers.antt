@@ -4,7 +4,7 @@ use native.Mathlib.Omega.{arith}
 use lib.ListN.{length, take}
 use Rattle.std.proofs.shelf.Equals.{matches-decides}
 use Rattle.std.proofs.shelf.Lists.{take-append-le, take-all}
-use Rattle.ntriples.specs.Answers.{kind-of, bytes-of}
+use Rattle.ntriples.specs.Answers.{kind-of}
 use Rattle.spelling.specs.Names.{Denotes, canonical}
 use Rattle.spelling.proofs.Laws.{own-name, lawful-or-not}
 use Rattle.spelling.proofs.canonical.is_lawful_as.Needs as need

@@ -1,4 +1,4 @@
-use mathlib.Core.Path.{_≡_, subst}
+use mathlib.Core.Path.{subst}
 use Rattle.ntriples.specs.Answers.{kind-of, bytes-of}
 use Rattle.spelling.specs.Names.{Denotes}
 use Rattle.spelling.proofs.Tokens.{no-label}
