@@ -33,9 +33,6 @@ pub record Walked (text : List ℕ) (pos : ℕ) (after-cr : Bool) (s : Survey) :
   pub within : pos ≤ length text
   pub completes : (rest : List Row) (vs : List Verdict) → Lines pos (drop pos text) rest → Verdicts (shown after-cr rest) vs → Surveyed text (seen ++ vs)
 
-pub start : (text : List ℕ) (s : Survey) → Tells [] s → Walked text 0 false s
-start text s h = record { seen = []; tells = h; few = omega arith; within = omega arith; completes = λ rest vs l v. (rest, l, v) }
-
 module _ (text : List ℕ) (pos : ℕ) (r : Reading) (next : ℕ) (after-cr : Bool) (s : Survey) (l : Line-at text pos r next) (w : Walked text pos after-cr s) where
   abbrev row : Row
   row = row-of pos r (l .bs) (l .ending)
@@ -76,7 +73,7 @@ module _ (text : List ℕ) (pos : ℕ) (r : Reading) (next : ℕ) (after-cr : Bo
   }
 
 module _ (text : List ℕ) (pos : ℕ) (after-cr : Bool) (s : Survey) (w : Walked text pos after-cr s) (ended : length text ≤ pos) where
-  pub surveyed : Surveyed text (w .seen)
+  surveyed : Surveyed text (w .seen)
   surveyed =
       subst (Surveyed text) (append-nil (w .seen)) (w .completes [] [] (subst (λ u. Lines pos u []) (sym (drop-all pos text ended)) none) verdicts.none)
 

@@ -33,21 +33,23 @@ impl Survey {
     }
 
     // Counts one line more, with its verdict.
-    pub(crate) fn add(&mut self, line: Verdict) -> Result<(), AllocError>
+    pub(crate) fn add(&mut self, judged: Verdict) -> Result<(), AllocError>
         requires { ⌜ Room (now self) ⌝ }
-        ensures { λ r. ⌜ made r (λ _. Added line (now (self .entry)) (now (self .exit))) ⌝ }
+        ensures { λ r. ⌜ made r (λ _. Added judged (now (self .entry)) (now (self .exit))) ⌝ }
     {
         self.lines += 1;
-        match line {
+        match judged {
             Verdict::Triple => self.triples += 1,
             Verdict::Comment => self.comments += 1,
             Verdict::Empty => self.empty += 1,
-            Verdict::Refused(refusal, offset) => self.findings
-                .push(Finding {
+            Verdict::Refused(refusal, offset) => {
+                let finding = Finding {
                     line: self.lines,
                     refusal,
                     offset,
-                })?,
+                };
+                self.findings.push(finding)?;
+            }
         }
         Ok(())
     }

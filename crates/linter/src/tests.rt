@@ -101,24 +101,28 @@ fn prints(heap: Global, refusal: Refusal, want: &str) -> Result<(), Fail> {
 #[test]
 fn sentences(rt: LibcRuntime) -> Result<(), Fail> {
     let heap = rt.alloc();
+    let high = Refusal::Fault(FaultKind::HighByte);
+    let escape = Refusal::Fault(FaultKind::UnicodeEscape);
+    let unexpected = Refusal::Fault(FaultKind::Unexpected);
+    let long = Refusal::TooLong(TooLong);
     prints(
         heap,
-        Refusal::Fault(FaultKind::HighByte),
+        high,
         "line 3, offset 57: refused 1: a byte above 127 stands here",
     )?;
     prints(
         heap,
-        Refusal::Fault(FaultKind::UnicodeEscape),
+        escape,
         "line 3, offset 57: refused 2: the escapes \\u and \\U are not read",
     )?;
     prints(
         heap,
-        Refusal::Fault(FaultKind::Unexpected),
+        unexpected,
         "line 3, offset 57: refused 3: the line cannot go on here",
     )?;
     prints(
         heap,
-        Refusal::TooLong(TooLong),
+        long,
         "line 3, offset 57: refused 4: the spelling of this term has more than 255 bytes",
     )
 }

@@ -27,7 +27,7 @@ use grammar::class::CommentCharsClass;
 
 // A term of the line, and where it ends.
 #[derive(Clone, Copy)]
-pub struct Found<'a> {
+pub(crate) struct Found<'a> {
     pub token: Token<'a>,
     pub end: usize,
 }
@@ -188,7 +188,7 @@ fn content<'a>(line: &'a [u8], base: usize) -> Result<Line<'a>, Fault>
 }
 
 // What the line, whose first byte has the offset `base` in its document, is read as.
-pub fn read<'a>(line: &'a [u8], base: usize) -> Result<Line<'a>, Fault>
+pub(crate) fn read<'a>(line: &'a [u8], base: usize) -> Result<Line<'a>, Fault>
     requires fits { ⌜ base + length (now line) < 2 ^ 64 ⌝ }
     ensures { λ r. ⌜ Reads base (now (line .entry)) (reading r) ⌝ }
 {

@@ -20,7 +20,7 @@ use grammar::class::StringCharsClass;
 use grammar::class::UcharLettersClass;
 
 // Past the bytes of a class that stand at `from`.
-pub fn run_end<C: Class>(line: &[u8], from: usize) -> usize
+pub(crate) fn run_end<C: Class>(line: &[u8], from: usize) -> usize
     requires within { ⌜ from ≤ length (now line) ⌝ }
     ensures { λ e. ⌜ Run-to ranges (now (line .entry)) from e ⌝ }
 {
@@ -32,7 +32,7 @@ pub fn run_end<C: Class>(line: &[u8], from: usize) -> usize
 }
 
 // The fault of a line that cannot go on at `pos`.
-pub fn stuck(line: &[u8], pos: usize) -> Fault
+pub(crate) fn stuck(line: &[u8], pos: usize) -> Fault
     requires within { ⌜ pos ≤ length (now line) ⌝ }
     ensures place { λ r. ⌜ r .offset ≡ pos ⌝ }
     ensures halts { λ r. ⌜ ((f : Sort → Bool) (s : State) → Stuck f s (now (line .entry)) pos → Halts f s (now (line .entry)) (r .offset) (number (r .kind))) ⌝ }
@@ -56,7 +56,7 @@ pub fn stuck(line: &[u8], pos: usize) -> Fault
 }
 
 // The same right after a backslash.
-pub fn stuck_escape(line: &[u8], pos: usize) -> Fault
+pub(crate) fn stuck_escape(line: &[u8], pos: usize) -> Fault
     requires within { ⌜ pos ≤ length (now line) ⌝ }
     ensures place { λ r. ⌜ r .offset ≡ pos ⌝ }
     ensures halts { λ r. ⌜ ((s : State) → Stuck-escape s (now (line .entry)) pos → Halts in-term s (now (line .entry)) (r .offset) (number (r .kind))) ⌝ }
@@ -74,7 +74,7 @@ pub fn stuck_escape(line: &[u8], pos: usize) -> Fault
 }
 
 // Past the byte `b`, which has to stand at `pos`.
-pub fn expect(line: &[u8], pos: usize, b: u8) -> Result<usize, Fault>
+pub(crate) fn expect(line: &[u8], pos: usize, b: u8) -> Result<usize, Fault>
     requires within { ⌜ pos ≤ length (now line) ⌝ }
     ensures { λ r. ⌜ Cases r (λ e. (e ≡ pos + 1) × (pos < length (now (line .entry))) × (getD (now (line .entry)) pos 0 ≡ b)) (λ f. (f .offset ≤ length (now (line .entry))) × ((q : Sort → Bool) (s : State) → ((pos < length (now (line .entry)) → getD (now (line .entry)) pos 0 ≡ b → ⊥) → Stuck q s (now (line .entry)) pos) → Halts q s (now (line .entry)) (f .offset) (number (f .kind)))) ⌝ }
 {
@@ -88,7 +88,7 @@ pub fn expect(line: &[u8], pos: usize, b: u8) -> Result<usize, Fault>
 }
 
 // IRIREF, whose `<` is at `from`.
-pub fn iri_end(line: &[u8], from: usize) -> Result<usize, Fault>
+pub(crate) fn iri_end(line: &[u8], from: usize) -> Result<usize, Fault>
     requires here { ⌜ (from < length (now line)) × (getD (now line) from 0 ≡ 60) ⌝ }
     ensures found { λ r. ⌜ Cases r (λ e. (from < e) × (e ≤ length (now (line .entry))) × Is (IRIREF part) (piece (now (line .entry)) from e)) (λ f. f .offset ≤ length (now (line .entry))) ⌝ }
     ensures goes { λ r. ⌜ ((s : State) (n : Next) → Stands s (now (line .entry)) (from + 1) (iri n) → Cases r (λ e. Stands s (now (line .entry)) e (before n)) (λ f. Halts in-term s (now (line .entry)) (f .offset) (number (f .kind)))) ⌝ }
@@ -104,7 +104,7 @@ pub fn iri_end(line: &[u8], from: usize) -> Result<usize, Fault>
 }
 
 // BLANK_NODE_LABEL, whose `_` is at `from`.
-pub fn label_end(line: &[u8], from: usize) -> Result<usize, Fault>
+pub(crate) fn label_end(line: &[u8], from: usize) -> Result<usize, Fault>
     requires here { ⌜ (from < length (now line)) × (getD (now line) from 0 ≡ 95) ⌝ }
     ensures found { λ r. ⌜ Cases r (λ e. (from < e) × (e ≤ length (now (line .entry))) × Is BLANK-NODE-LABEL (piece (now (line .entry)) from e)) (λ f. f .offset ≤ length (now (line .entry))) ⌝ }
     ensures goes { λ r. ⌜ ((s : State) (n : Role) → Stands s (now (line .entry)) (from + 1) (under n) → Cases r (λ e. Ended s (now (line .entry)) e (follows n)) (λ f. Halts in-term s (now (line .entry)) (f .offset) (number (f .kind)))) ⌝ }
@@ -207,7 +207,7 @@ fn suffix_end(line: &[u8], from: usize) -> Result<usize, Fault>
 }
 
 // A literal, whose first quote is at `from`.
-pub fn literal_end(line: &[u8], from: usize) -> Result<usize, Fault>
+pub(crate) fn literal_end(line: &[u8], from: usize) -> Result<usize, Fault>
     requires here { ⌜ (from < length (now line)) × (getD (now line) from 0 ≡ 34) ⌝ }
     ensures found { λ r. ⌜ Cases r (λ e. (from < e) × (e ≤ length (now (line .entry))) × Is (literal part) (piece (now (line .entry)) from e)) (λ f. f .offset ≤ length (now (line .entry))) ⌝ }
     ensures goes { λ r. ⌜ ((s : State) → Stands s (now (line .entry)) (from + 1) string → Cases r (λ e. Ended s (now (line .entry)) e dot) (λ f. Halts in-term s (now (line .entry)) (f .offset) (number (f .kind)))) ⌝ }
