@@ -86,7 +86,6 @@ classes-in-resource classes_in_resource
 code-of-triple code_of-triple
 code-only code_only
 commentChar comment_char
-cond-true cond_true
 cube-inside cube_inside
 cube-lawful cube_lawful
 cuts-or cuts_or

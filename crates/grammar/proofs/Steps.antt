@@ -1,6 +1,6 @@
 -- One step of the scanner, or a run of bytes of a class, at an offset of its line. Assumes nothing.
 use Rattle.std.proofs.Common.{◌≡◌, ℕ, zero, suc, ◌+◌, ◌-◌, ◌<◌, ◌≤◌, Bool, true, false, cond, ◌&&◌, leb, ◌⊎◌, List, [], ◌∷◌, length, get_or, take, refl, ap, ◌∙◌, subst, inl, inr, ⊎_elim, arith}
-use Rattle.std.proofs.lemmas.Bool.{both_ways, cases_lt, cond_true, le-leb, leb-true, and_parts, or_cases}
+use Rattle.std.proofs.lemmas.Bool.{both_ways, cases_lt, cond-true, le-leb, leb-true, and_parts, or_cases}
 use Rattle.std.proofs.lemmas.List.{take_more}
 use Rattle.grammar.specs.Regular.{Range, inside}
 use Rattle.grammar.specs.Productions.{blank, letter, alnum, label_char, iri_char, string_char, uchar_letter, comment_char}
@@ -11,7 +11,7 @@ use Rattle.grammar.proofs.Runs.{run-append}
 
 -- a move is a step
 step-low : (t : State) (c : ℕ) → c < 128 → step t c ≡ move t c
-step-low t c h = cond_true (leb c 127) (move t c) dead (le-leb c 127 (omega arith))
+step-low t c h = cond-true (leb c 127) (move t c) dead (le-leb c 127 (omega arith))
 
 -- where no move is, no step is
 pub no_step : (t : State) (c : ℕ) → move t c ≡ dead → step t c ≡ dead
@@ -40,33 +40,33 @@ abbrev pub Loops : List Range → State → Type 0
 Loops rs t = (c : ℕ) → inside rs c ≡ true → step t c ≡ t
 
 pub loops_iri : (n : Next) → Loops iri_char (iri n)
-loops_iri n c i = class_step iri_char (iri n) (iri n) c refl i (cond_true _ _ _ i)
+loops_iri n c i = class_step iri_char (iri n) (iri n) c refl i (cond-true _ _ _ i)
 
 pub loops_label : (r : Role) → Loops label_char (label r)
-loops_label r c i = class_step label_char (label r) (label r) c refl i (cond_true _ _ _ i)
+loops_label r c i = class_step label_char (label r) (label r) c refl i (cond-true _ _ _ i)
 
 pub loops_string : Loops string_char string
-loops_string c i = class_step string_char string string c refl i (cond_true _ _ _ i)
+loops_string c i = class_step string_char string string c refl i (cond-true _ _ _ i)
 
 pub loops_tag : Loops letter tag
-loops_tag c i = class_step letter tag tag c refl i (cond_true _ _ _ i)
+loops_tag c i = class_step letter tag tag c refl i (cond-true _ _ _ i)
 
 pub loops_sub : Loops alnum sub
-loops_sub c i = class_step alnum sub sub c refl i (cond_true _ _ _ i)
+loops_sub c i = class_step alnum sub sub c refl i (cond-true _ _ _ i)
 
 pub loops_start : Loops blank start
-loops_start c i = class_step blank start start c refl i (cond_true _ _ _ i)
+loops_start c i = class_step blank start start c refl i (cond-true _ _ _ i)
 
 pub loops_ended : Loops blank ended
-loops_ended c i = class_step blank ended ended c refl i (cond_true _ _ _ i)
+loops_ended c i = class_step blank ended ended c refl i (cond-true _ _ _ i)
 
 pub loops_remark : Loops comment_char remark
-loops_remark c i = class_step comment_char remark remark c refl i (cond_true _ _ _ i)
+loops_remark c i = class_step comment_char remark remark c refl i (cond-true _ _ _ i)
 
 loops_before : (n : Next) → Loops blank (before n)
-loops_before verb c i = class_step blank (before verb) (before verb) c refl i (cond_true _ _ _ i)
-loops_before thing c i = class_step blank (before thing) (before thing) c refl i (cond_true _ _ _ i)
-loops_before dot c i = class_step blank (before dot) (before dot) c refl i (cond_true _ _ _ i)
+loops_before verb c i = class_step blank (before verb) (before verb) c refl i (cond-true _ _ _ i)
+loops_before thing c i = class_step blank (before thing) (before thing) c refl i (cond-true _ _ _ i)
+loops_before dot c i = class_step blank (before dot) (before dot) c refl i (cond-true _ _ _ i)
 
 module _ (s : State) (bs : List ℕ) (rs : List Range) (t : State) (h : Loops rs t) where
   pub stays : (n k e : ℕ) → e ≡ k + n → e ≤ length bs → ((j : ℕ) → k ≤ j → j < e → inside rs (get_or bs j 0) ≡ true) → Stands s bs k t → Stands s bs e t
