@@ -1,5 +1,8 @@
 // Checks a sheet of N-Triples on standard input: how many lines of each kind it has, and each line that cannot be
 // read. Everything that is printed is computed by the library `linter`; here it is read and printed.
+
+#![tactic(auto)]
+
 use linter::survey::survey;
 use std::io::Read;
 

@@ -1,5 +1,8 @@
 // Reads N-Triples line by line. Bytes in, tokens out, no copy: each token borrows its bytes from the text and
 // carries the offset where it began. What a line is read as is defined by the grammar, in the crate `grammar`.
+
+#![tactic(auto)]
+
 pub mod document;
 pub mod fault;
 mod line;

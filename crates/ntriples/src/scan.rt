@@ -11,7 +11,7 @@ use grammar::class::Class;
 // Past the bytes of a class that stand at `from`.
 pub(crate) fn run_end<C: Class>(line: &[u8], from: usize) -> usize
     requires within { from ≤ length line.now }
-    ensures { RunTo ranges line.now from result }
+    ensures { RunTo C.ranges line.now from result }
 {
     let mut pos = from;
     while pos < line.len() && C::contains(line[pos]) {

@@ -1,5 +1,8 @@
 // Canonical spellings of names: what a token denotes, spelled in the one way that RDF 1.1 N-Triples calls canonical.
 // Two tokens have one spelling exactly when they denote one name.
+
+#![tactic(auto)]
+
 mod canonical;
 mod text;
 

@@ -9,4 +9,4 @@ pub returns-in-Err : goal.returns-in-Err
 returns-in-Err c =
     let bs = c.args.line.now in
     let f = c.in-Err.f in
-    (f.offset, c.at-base.ensures.1, subst (λ k. Stops (line full) (line part) bs f.offset (number k)) (sym c.at-base.ensures.0) (stops bs f.offset (number f.kind) c.in-Err.ensures.1))
+    (f.offset, c.at_base.ensures.1, subst (λ k. Stops (line full) (line part) bs f.offset (number k)) (sym c.at_base.ensures.0) (stops bs f.offset (number f.kind) c.in-Err.ensures.1))

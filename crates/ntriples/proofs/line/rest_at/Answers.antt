@@ -11,8 +11,8 @@ use Rattle.ntriples.proofs.line.rest_at.Goals as goal
 pub returns-then-end-line : goal.returns-then-end-line
 returns-then-end-line c =
     let bs = c.args.line.now in
-    let end = c.run-end-end.result in
-    let run = c.run-end-end.ensures in
+    let end = c.run_end-end.result in
+    let run = c.run_end-end.ensures in
     let whole : end ≡ length bs = omega (arith, run.within) in
     record {
       found = subst (λ x. Is rest (piece bs c.args.from x)) whole (record { spelled = join bs WS (empty or comment) c.args.from end end run.forward (omega arith) (run-spells bs blank c.args.from end run) (inl (piece-none bs end)) });
@@ -22,8 +22,8 @@ returns-then-end-line c =
 pub returns-then-line-end-ne35 : goal.returns-then-line-end-ne35
 returns-then-line-end-ne35 c =
     let bs = c.args.line.now in
-    let end = c.run-end-end.result in
-    let run = c.run-end-end.ensures in
+    let end = c.run_end-end.result in
+    let run = c.run_end-end.ensures in
     record {
       found = omega (arith, run.within);
       goes = λ s h. c.stuck.ensures.halts in_line s (stuck_at in_line s bs end ended (run-stays s bs blank ended loops_ended c.args.from end run h)
@@ -33,11 +33,11 @@ returns-then-line-end-ne35 c =
 pub returns : goal.returns
 returns c =
     let bs = c.args.line.now in
-    let end = c.run-end-end.result in
-    let run = c.run-end-end.ensures in
+    let end = c.run_end-end.result in
+    let run = c.run_end-end.ensures in
     record {
-      found = MatchResult-weaker c.comment-at.result c.comment-at.ensures.found
+      found = MatchResult-weaker c.comment_at.result c.comment_at.ensures.found
           (λ _ h. record { spelled = join bs WS (empty or comment) c.args.from end (length bs) run.forward run.within (run-spells bs blank c.args.from end run) (inr h.spelled) })
           (λ f h. h);
-      goes = λ s h. c.comment-at.ensures.goes s (by_byte s bs end 35 ended remark (run-stays s bs blank ended loops_ended c.args.from end run h) (omega arith) (omega arith) refl);
+      goes = λ s h. c.comment_at.ensures.goes s (by_byte s bs end 35 ended remark (run-stays s bs blank ended loops_ended c.args.from end run h) (omega arith) (omega arith) refl);
     }

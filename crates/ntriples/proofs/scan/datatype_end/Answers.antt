@@ -8,25 +8,25 @@ use Rattle.grammar.proofs.Moves.{no_carets}
 use Rattle.grammar.proofs.Builds.{build-datatype}
 use Rattle.ntriples.proofs.scan.datatype_end.Goals as goal
 
-pub returns-in-err-expect : goal.returns-in-err-expect
-returns-in-err-expect c =
+pub returns-in_err-expect : goal.returns-in_err-expect
+returns-in_err-expect c =
     let bs = c.args.line.now in
-    let p = err_from_is_err_and c.from-residual-in-err-expect.result c.from-residual-in-err-expect.ensures.1 in
-    let first = c.in-ok-bracket.ensures in
-    let told = c.in-err-expect.ensures in
+    let p = err_from_is_err_and c.from_residual-in_err-expect.result c.from_residual-in_err-expect.ensures.1 in
+    let first = c.in_ok-bracket.ensures in
+    let told = c.in_err-expect.ensures in
     rw (p.1, p.2) (record {
       found = told.0;
-      goes = λ s h. told.1 in_term s (λ not_so. stuck_at in_term s bs c.in-ok-bracket.bracket carets
+      goes = λ s h. told.1 in_term s (λ not_so. stuck_at in_term s bs c.in_ok-bracket.bracket carets
           (subst (λ x. Stands s bs x carets) (sym first.0) (by_byte s bs (c.args.from + 1) 94 caret carets h first.1 first.2 refl)) refl (λ l. no_carets _ (not_so l)) (λ _. refl));
     })
 
 pub returns : goal.returns
 returns c =
     let bs = c.args.line.now in
-    let first = c.in-ok-bracket.ensures in
-    let second = c.in-ok-expect.ensures in
+    let first = c.in_ok-bracket.ensures in
+    let second = c.in_ok-expect.ensures in
     record {
-      found = MatchResult-weaker c.iri-end.result c.iri-end.ensures.found
+      found = MatchResult-weaker c.iri_end.result c.iri_end.ensures.found
           (λ e h. (
             omega (arith, first.0, h.0),
             h.1,
@@ -34,8 +34,8 @@ returns c =
                 (subst (λ x. Is (IRIREF part) (piece bs x e)) first.0 h.2),
           ))
           (λ f h. h);
-      goes = λ s h. MatchResult-weaker c.iri-end.result (c.iri-end.ensures.goes s dot
-          (by_byte s bs c.in-ok-bracket.bracket 60 carets (iri dot)
+      goes = λ s h. MatchResult-weaker c.iri_end.result (c.iri_end.ensures.goes s dot
+          (by_byte s bs c.in_ok-bracket.bracket 60 carets (iri dot)
           (subst (λ x. Stands s bs x carets) (sym first.0) (by_byte s bs (c.args.from + 1) 94 caret carets h first.1 first.2 refl)) second.1 second.2 refl))
           (λ e k. before-ended s bs e dot k)
           (λ f k. k);

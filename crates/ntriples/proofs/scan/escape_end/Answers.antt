@@ -12,7 +12,7 @@ returns-then-letter-line c =
     let bs = c.args.line.now in
     record {
       found = omega arith;
-      goes = λ s h. c.stuck-escape.ensures.halts s (string-stuck s bs (c.args.from + 1) (by_byte s bs c.args.from 92 string escape h (omega arith) c.requires.here.1 refl) (λ l. absurd (omega arith)));
+      goes = λ s h. c.stuck_escape.ensures.halts s (string-stuck s bs (c.args.from + 1) (by_byte s bs c.args.from 92 string escape h (omega arith) c.requires.here.1 refl) (λ l. absurd (omega arith)));
     }
 
 pub returns-then-not-contains : goal.returns-then-not-contains
@@ -20,8 +20,8 @@ returns-then-not-contains c =
     let bs = c.args.line.now in
     let i : inside escape_letter (get_or bs (c.args.from + 1) 0) ≡ false = cc in
     record {
-      found = omega (arith, c.stuck-escape-then-not-contains.ensures.place);
-      goes = λ s h. c.stuck-escape-then-not-contains.ensures.halts s (string-stuck s bs (c.args.from + 1) (by_byte s bs c.args.from 92 string escape h (omega arith) c.requires.here.1 refl) (λ l. i));
+      found = omega (arith, c.stuck_escape-then-not-contains.ensures.place);
+      goes = λ s h. c.stuck_escape-then-not-contains.ensures.halts s (string-stuck s bs (c.args.from + 1) (by_byte s bs c.args.from 92 string escape h (omega arith) c.requires.here.1 refl) (λ l. i));
     }
 
 pub returns : goal.returns

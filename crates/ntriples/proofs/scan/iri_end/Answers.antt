@@ -11,28 +11,28 @@ use Rattle.ntriples.proofs.scan.iri_end.Goals as goal
 pub returns-then-end-line : goal.returns-then-end-line
 returns-then-end-line c =
     let bs = c.args.line.now in
-    let end = c.run-end-end.result in
+    let end = c.run_end-end.result in
     record {
-      found = omega (arith, c.run-end-end.ensures.within);
+      found = omega (arith, c.run_end-end.ensures.within);
       goes = λ s n h. c.stuck.ensures.halts in_term s (stuck_at in_term s bs end (iri n)
-          (run-stays s bs iri_char (iri n) (loops_iri n) (c.args.from + 1) end c.run-end-end.ensures h) refl (λ l. absurd (omega arith)) (λ _. refl));
+          (run-stays s bs iri_char (iri n) (loops_iri n) (c.args.from + 1) end c.run_end-end.ensures h) refl (λ l. absurd (omega arith)) (λ _. refl));
     }
 
 pub returns-then-line-end-eq92 : goal.returns-then-line-end-eq92
 returns-then-line-end-eq92 c =
     let bs = c.args.line.now in
-    let end = c.run-end-end.result in
+    let end = c.run_end-end.result in
     record {
-      found = omega (arith, c.stuck-escape.ensures.place);
-      goes = λ s n h. c.stuck-escape.ensures.halts s (slash-stuck s bs end n (omega arith) (omega arith)
-          (run-stays s bs iri_char (iri n) (loops_iri n) (c.args.from + 1) end c.run-end-end.ensures h));
+      found = omega (arith, c.stuck_escape.ensures.place);
+      goes = λ s n h. c.stuck_escape.ensures.halts s (slash-stuck s bs end n (omega arith) (omega arith)
+          (run-stays s bs iri_char (iri n) (loops_iri n) (c.args.from + 1) end c.run_end-end.ensures h));
     }
 
 pub returns : goal.returns
 returns c =
     let bs = c.args.line.now in
-    let end = c.run-end-end.result in
-    let run = c.run-end-end.ensures in
+    let end = c.run_end-end.result in
+    let run = c.run_end-end.ensures in
     let at : (s : State) (n : Next) → Stands s bs (c.args.from + 1) (iri n) → Stands s bs end (iri n) =
     λ s n h. run-stays s bs iri_char (iri n) (loops_iri n) (c.args.from + 1) end run h in
     record {

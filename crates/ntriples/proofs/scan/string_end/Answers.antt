@@ -13,12 +13,12 @@ use Rattle.ntriples.proofs.scan.string_end.Goals.{then-loop-pos-test+else-line-p
 pub loop-pos-init : goal.loop-pos-init
 loop-pos-init c =
     let bs = c.args.line.now in
-    let run = c.run-end-pos.ensures in (
+    let run = c.run_end-pos.ensures in (
       run.forward,
       run.within,
       run.past,
-      more-plain bs (c.args.from + 1) (c.args.from + 1) c.run-end-pos.result (omega arith) run (none_yet bs (one string_char or ECHAR or UCHAR part) (c.args.from + 1)),
-      λ s h. run-stays s bs string_char string loops_string (c.args.from + 1) c.run-end-pos.result run h,
+      more-plain bs (c.args.from + 1) (c.args.from + 1) c.run_end-pos.result (omega arith) run (none_yet bs (one string_char or ECHAR or UCHAR part) (c.args.from + 1)),
+      λ s h. run-stays s bs string_char string loops_string (c.args.from + 1) c.run_end-pos.result run h,
     )
 
 pub loop-pos-preserved : goal.loop-pos-preserved
@@ -26,15 +26,15 @@ loop-pos-preserved c =
     let bs = c.args.line.now in
     let a = c.args.from + 1 in
     let inv = c.loop-pos.invariant in
-    let run = c.run-end-pos-in-loop-pos.ensures in
-    let next = c.in-ok-next.next in
-    let told = c.in-ok-next.ensures in (
+    let run = c.run_end-pos-in-loop-pos.ensures in
+    let next = c.in_ok-next.next in
+    let told = c.in_ok-next.ensures in (
       omega (arith, inv.0, told.found.0, run.forward),
       run.within,
       run.past,
-      more-plain bs a next c.run-end-pos-in-loop-pos.result (omega (arith, inv.0, told.found.0)) run
+      more-plain bs a next c.run_end-pos-in-loop-pos.result (omega (arith, inv.0, told.found.0)) run
           (more-escape bs a c.loop-pos.pos next inv.0 (omega (arith, told.found.0)) inv.3 told.found.2),
-      λ s h. run-stays s bs string_char string loops_string next c.run-end-pos-in-loop-pos.result run (told.goes s (inv.4 s h)),
+      λ s h. run-stays s bs string_char string loops_string next c.run_end-pos-in-loop-pos.result run (told.goes s (inv.4 s h)),
     )
 
 pub returns : goal.returns
@@ -57,8 +57,8 @@ returns c =
           (λ f k. k.1 in_term s (λ not_so. stuck_at in_term s bs pos string (inv.4 s h) refl (λ l. no_string (get_or bs pos 0) (inv.2 l) (not_so l) (plain l)) (λ _. refl)));
     }
 
-pub returns-in-err-next : goal.returns-in-err-next
-returns-in-err-next c =
-    let p = err_from_is_err_and c.from-residual.result c.from-residual.ensures.1 in
-    let told = c.in-err-next.ensures in
+pub returns-in_err-next : goal.returns-in_err-next
+returns-in_err-next c =
+    let p = err_from_is_err_and c.from_residual.result c.from_residual.ensures.1 in
+    let told = c.in_err-next.ensures in
     rw (p.1, p.2) (record { found = told.found; goes = λ s h. told.goes s (c.loop-pos.invariant.4 s h) })

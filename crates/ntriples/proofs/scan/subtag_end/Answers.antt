@@ -8,8 +8,8 @@ use Rattle.ntriples.proofs.scan.subtag_end.Goals as goal
 pub returns-then-end-from : goal.returns-then-end-from
 returns-then-end-from c =
     let bs = c.args.line.now in
-    let end = c.run-end-end.result in
-    let run = c.run-end-end.ensures in
+    let end = c.run_end-end.result in
+    let run = c.run_end-end.ensures in
     let here : c.args.from + 1 ≡ end = omega arith in
     record {
       found = omega (arith, run.within);
@@ -21,8 +21,8 @@ returns-then-end-from c =
 pub returns : goal.returns
 returns c =
     let bs = c.args.line.now in
-    let run = c.run-end-end.ensures in
+    let run = c.run_end-end.ensures in
     record {
-      found = (omega (arith, run.forward), run.within, build-subtag bs c.args.from c.requires.here.0 c.run-end-end.result c.requires.here.1 run (omega (arith, run.forward)));
-      goes = λ s h. sub-run s bs (c.args.from + 1) c.run-end-end.result run (omega (arith, run.forward)) (tag-hyphen s bs c.args.from h c.requires.here.0 c.requires.here.1);
+      found = (omega (arith, run.forward), run.within, build-subtag bs c.args.from c.requires.here.0 c.run_end-end.result c.requires.here.1 run (omega (arith, run.forward)));
+      goes = λ s h. sub-run s bs (c.args.from + 1) c.run_end-end.result run (omega (arith, run.forward)) (tag-hyphen s bs c.args.from h c.requires.here.0 c.requires.here.1);
     }

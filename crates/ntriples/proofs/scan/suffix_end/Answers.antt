@@ -18,16 +18,16 @@ pub returns-then-line-from-eq64 : goal.returns-then-line-from-eq64
 returns-then-line-from-eq64 c =
     let bs = c.args.line.now in
     record {
-      found = MatchResult-weaker c.tag-end.result c.tag-end.ensures.found (λ e h. (omega (arith, h.0), h.1, tag-suffix bs c.args.from e h.2)) (λ f h. h);
-      goes = λ s h. c.tag-end.ensures.goes s (by_byte s bs c.args.from 64 quoted at h (omega arith) (omega arith) refl);
+      found = MatchResult-weaker c.tag_end.result c.tag_end.ensures.found (λ e h. (omega (arith, h.0), h.1, tag-suffix bs c.args.from e h.2)) (λ f h. h);
+      goes = λ s h. c.tag_end.ensures.goes s (by_byte s bs c.args.from 64 quoted at h (omega arith) (omega arith) refl);
     }
 
 pub returns-then-line-from-eq94 : goal.returns-then-line-from-eq94
 returns-then-line-from-eq94 c =
     let bs = c.args.line.now in
     record {
-      found = MatchResult-weaker c.datatype-end.result c.datatype-end.ensures.found (λ e h. (omega (arith, h.0), h.1, datatype-suffix bs c.args.from e h.2)) (λ f h. h);
-      goes = λ s h. c.datatype-end.ensures.goes s (by_byte s bs c.args.from 94 quoted caret h (omega arith) (omega arith) refl);
+      found = MatchResult-weaker c.datatype_end.result c.datatype_end.ensures.found (λ e h. (omega (arith, h.0), h.1, datatype-suffix bs c.args.from e h.2)) (λ f h. h);
+      goes = λ s h. c.datatype_end.ensures.goes s (by_byte s bs c.args.from 94 quoted caret h (omega arith) (omega arith) refl);
     }
 
 pub returns : goal.returns

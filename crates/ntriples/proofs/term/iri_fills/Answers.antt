@@ -6,8 +6,8 @@ use Rattle.grammar.proofs.Steps.{by_byte, before-ended}
 use Rattle.grammar.proofs.Recognise.{is_all, not-all, not_stuck, first_is}
 use Rattle.ntriples.proofs.term.iri_fills.Goals as goal
 
-pub returns-then-is-empty : goal.returns-then-is-empty
-returns-then-is-empty c = record { yes = λ e. absurd (both_ways false refl e); no = λ e i. let f = first_is (IRIREF part) 60 c.args.text.now refl refl i in let z = eqb-true _ 0 (sym c.if-is-empty.ensures) in omega (arith, f.0, z) }
+pub returns-then-is_empty : goal.returns-then-is_empty
+returns-then-is_empty c = record { yes = λ e. absurd (both_ways false refl e); no = λ e i. let f = first_is (IRIREF part) 60 c.args.text.now refl refl i in let z = eqb-true _ 0 (sym c.if-is_empty.ensures) in omega (arith, f.0, z) }
 
 pub returns-then-text-ne60 : goal.returns-then-text-ne60
 returns-then-text-ne60 c = record { yes = λ e. absurd (both_ways false refl e); no = λ e i. c.if-text-ne60.true (first_is (IRIREF part) 60 c.args.text.now refl refl i).1 }
