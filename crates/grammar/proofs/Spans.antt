@@ -1,6 +1,6 @@
 -- A run of bytes that satisfy a predicate, up to a byte that does not, is unique. Assumes nothing.
 use Rattle.std.proofs.Common.{◌≡◌, ℕ, true, List, [], ◌∷◌, ◌++◌, sym, refl, subst, arith}
-use Rattle.grammar.specs.Regular.{Range, inside, one}
+use Rattle.grammar.specs.Regular.{Range, inside}
 
 pub no_cons : (c : ℕ) (s : List ℕ) → c ∷ s ≡ [] → ⊥
 no_cons c s e = let z : ◌≡◌ {A = ℕ} 0 1 = cc in omega arith

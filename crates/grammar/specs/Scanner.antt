@@ -1,6 +1,6 @@
 -- An inner device, for the contracts of the functions that scan a line: where a reader of one line stands, byte by byte.
 -- The grammar is in Productions; proofs/Residue shows that each state is what is left of the grammar there. Assumes nothing.
-use Rattle.std.specs.Prelude.{◌≡◌, ℕ, ◌+◌, ◌-◌, ◌<◌, ◌≤◌, Bool, true, false, cond, ◌⊎◌, List, [], ◌∷◌, length, take, ◌==◌, ◌≢◌, nat_le, slice_index, slice_range}
+use Rattle.std.specs.Prelude.{◌≡◌, ℕ, ◌+◌, ◌<◌, ◌≤◌, Bool, true, false, cond, ◌⊎◌, List, [], ◌∷◌, length, take, ◌==◌, ◌≢◌, nat_le, slice_index, slice_range}
 use Rattle.grammar.specs.Regular.{Range, inside}
 use Rattle.grammar.specs.Productions.{blank, letter, alnum, label_char, iri_char, string_char, escape_letter, comment_char}
 

@@ -3,9 +3,9 @@ use Rattle.linter.proofs.Bytes.{lengths}
 use Rattle.linter.proofs.Tallies.{tells-room}
 use Rattle.linter.proofs.Walks.{passed, counted, exists, only}
 use Rattle.linter.proofs.survey.survey.Goals as goal
-use Rattle.linter.proofs.survey.survey.Goals.{then-not-is-half-of-pair+in-ok-add, else-not-is-half-of-pair}
+use Rattle.linter.proofs.survey.survey.Goals.{then-not-is-half-of-pair+in_ok-add, else-not-is-half-of-pair}
 
-pub is-half-of-pair-requires : goal.is-half-of-pair-requires
+pub is-half-of-pair-requires : goal.is_half_of_pair-requires
 is-half-of-pair-requires c = omega (arith, lengths _ _ _ _ c.in-Some.ensures.reads)
 
 pub add-requires : goal.add-requires
@@ -13,8 +13,8 @@ add-requires c =
     let w = c.loop-line.invariant in
     tells-room w.seen c.loop-line.survey w.tells (omega (arith, w.few, lengths _ _ _ _ c.in-Some.ensures.reads))
 
-pub overflow-sub-after-cr : goal.overflow-sub-after-cr
-overflow-sub-after-cr c = omega (arith, lengths _ _ _ _ c.in-Some.ensures.reads)
+pub overflow_sub-after_cr : goal.overflow_sub-after_cr
+overflow_sub-after_cr c = omega (arith, lengths _ _ _ _ c.in-Some.ensures.reads)
 
 pub bounds-text-line : goal.bounds-text-line
 bounds-text-line c = omega (arith, lengths _ _ _ _ c.in-Some.ensures.reads)
@@ -26,14 +26,14 @@ pub loop-line-preserved : goal.loop-line-preserved
 loop-line-preserved c =
     let l = c.in-Some.ensures.reads in
     let before = c.loop-line.invariant in
-    elim c.if-not-is-half-of-pair.branch [
-      | then-not-is-half-of-pair+in-ok-add w ↦
-          rw w.survey-is (counted _ _ _ _ _ _ l before w.add.new.self w.judge.result w.judge.ensures.judged w.in-ok-add.ensures w.if-not-is-half-of-pair.ensures)
-      | else-not-is-half-of-pair w ↦ rw w.survey-is (passed _ _ _ _ _ _ l before w.if-not-is-half-of-pair.ensures)
+    elim c.if-not-is_half_of_pair.branch [
+      | then-not-is-half-of-pair+in_ok-add w ↦
+          rw w.survey-is (counted _ _ _ _ _ _ l before w.add.new.self w.judge.result w.judge.ensures.judged w.in_ok-add.ensures w.if-not-is_half_of_pair.ensures)
+      | else-not-is_half_of_pair w ↦ rw w.survey-is (passed _ _ _ _ _ _ l before w.if-not-is_half_of_pair.ensures)
     ]
 
 pub returns : goal.returns
 returns c =
     let w = c.loop-line.invariant in
-    let ended = c.in-default.ensures.reads in
+    let ended = c.in_default.ensures.reads in
     record { exists = exists _ _ _ _ w ended; only = only _ _ _ _ w ended }

@@ -7,6 +7,6 @@ use Rattle.linter.proofs.verdict.judge.Goals as goal
 
 pub returns-in-Ok : goal.returns-in-Ok
 returns-in-Ok c =
-    let v = verdict c.judge-line.result in
-    let h = subst (λ o. Judged (reading o) v) (sym c.in-Ok.is) c.judge-line.ensures in
+    let v = verdict c.judge_line.result in
+    let h = subst (λ o. Judged (reading o) v) (sym c.in-Ok.is) c.judge_line.ensures in
     record { judged = h; only = λ w k. one-verdict (reading c.args.outcome) w v k h }

@@ -7,19 +7,19 @@ use Rattle.spelling.proofs.Laws.{own_name, lawful_or_not}
 use Rattle.spelling.proofs.canonical.is_lawful_as.Goals as goal
 use Rattle.std.proofs.lemmas.Bool.Decides.{Decides-eqb}
 
-pub returns-then-not-has-name : goal.returns-then-not-has-name
-returns-then-not-has-name c = λ h.
-    c.if-not-has-name.ensures.no refl h.name (subst (λ t. Denotes (kind_of c.args.token) t h.name) (sym c.requires.same) (own_name (kind_of c.args.token) c.args.bytes.now h))
+pub returns-then-not-has_name : goal.returns-then-not-has_name
+returns-then-not-has_name c = λ h.
+    c.if-not-has_name.ensures.no refl h.name (subst (λ t. Denotes (kind_of c.args.token) t h.name) (sym c.requires.same) (own_name (kind_of c.args.token) c.args.bytes.now h))
 
-pub returns-in-default : goal.returns-in-default
-returns-in-default c = λ h.
+pub returns-in_default : goal.returns-in_default
+returns-in_default c = λ h.
     let d = subst (λ t. Denotes (kind_of c.args.token) t h.name) (sym c.requires.same) (own_name (kind_of c.args.token) c.args.bytes.now h) in
-    omega (arith, c.in-default.ensures h.name d, h.short, ap length h.spelled)
+    omega (arith, c.in_default.ensures h.name d, h.short, ap length h.spelled)
 
 pub returns : goal.returns
 returns c =
     let k = kind_of c.args.token in
-    let named = c.if-not-has-name.ensures.yes refl in
+    let named = c.if-not-has_name.ensures.yes refl in
     let told = c.in-Some.ensures named.0 named.1 in
     let n = c.in-Some.n in
     let d = slice_eq-Decides Decides-eqb _ _ _ c.eq.ensures in

@@ -29,8 +29,8 @@ returns-in-39 c = escape-at apostrophe (omega arith)
 pub returns-in-92 : goal.returns-in-92
 returns-in-92 c = escape-at backslash (omega arith)
 
-pub returns-in-default : goal.returns-in-default
-returns-in-default c = λ d x.
+pub returns-in_default : goal.returns-in_default
+returns-in_default c = λ d x.
     one_of (λ k. k ≡ c.args.letter → ⊥) escape_letter c.args.letter
     ((λ e. omega arith) also (λ e. omega arith) also (λ e. omega arith) also (λ e. omega arith)
     also (λ e. omega arith) also (λ e. omega arith) also (λ e. omega arith) also (λ e. omega arith) also no_more)

@@ -9,14 +9,14 @@ returns-then-text-i-ne92 c =
 pub returns-then-i-text : goal.returns-then-i-text
 returns-then-i-text c = record { ends = tt; splits = no-split-end c.args.text.now c.args.i c.requires.within (omega arith) (omega arith) }
 
-pub returns-in-err-byte : goal.returns-in-err-byte
-returns-in-err-byte c =
-    let never = no-split-letter c.args.text.now c.args.i c.requires.within (omega arith) (omega arith) c.in-err-byte.ensures in
-    rw c.from-residual.ensures (record { ends = tt; splits = never })
+pub returns-in_err-byte : goal.returns-in_err-byte
+returns-in_err-byte c =
+    let never = no-split-letter c.args.text.now c.args.i c.requires.within (omega arith) (omega arith) c.in_err-byte.ensures in
+    rw c.from_residual.ensures (record { ends = tt; splits = never })
 
 pub returns : goal.returns
 returns c =
     record {
       ends = (omega arith, omega arith);
-      splits = splits-escape c.args.text.now c.args.i c.requires.within (omega arith) (omega arith) _ c.in-ok-byte.ensures;
+      splits = splits-escape c.args.text.now c.args.i c.requires.within (omega arith) (omega arith) _ c.in_ok-byte.ensures;
     }

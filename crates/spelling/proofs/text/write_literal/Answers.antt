@@ -6,29 +6,29 @@ use Rattle.spelling.proofs.Turns.{not_empty, first-quote, some-piece, too_long, 
 use Rattle.spelling.proofs.text.write_literal.Goals as goal
 use Rattle.spelling.proofs.text.write_literal.Goals.{then-loop-i-test+else-text-i-ne34, else-loop-i-test}
 
-pub returns-then-is-empty : goal.returns-then-is-empty
-returns-then-is-empty c = λ n d. let h = not_empty c.args.text.now n d in grind arith
+pub returns-then-is_empty : goal.returns-then-is_empty
+returns-then-is_empty c = λ n d. let h = not_empty c.args.text.now n d in grind arith
 
 pub loop-i-init : goal.loop-i-init
 loop-i-init c =
     let long = length-set c.args.out.now 0 34 in
     (grind arith, omega arith, omega (arith, long), omega (arith, long), λ n d. first-quote c.args.text.now c.args.out.now n (omega arith) d)
 
-pub returns-in-err-piece : goal.returns-in-err-piece
-returns-in-err-piece c = λ n d.
-    absurd (some-piece _ _ _ _ _ n (c.loop-i.invariant.4 n d) (omega arith) (λ e. omega arith) c.in-err-piece.ensures.splits)
+pub returns-in_err-piece : goal.returns-in_err-piece
+returns-in_err-piece c = λ n d.
+    absurd (some-piece _ _ _ _ _ n (c.loop-i.invariant.4 n d) (omega arith) (λ e. omega arith) c.in_err-piece.ensures.splits)
 
-pub returns-in-err-j : goal.returns-in-err-j
-returns-in-err-j c = λ n d.
+pub returns-in_err-j : goal.returns-in_err-j
+returns-in_err-j c = λ n d.
     let h : length c.loop-i.out < length (canonical n) =
     too_long _ _ _ _ _ n (c.loop-i.invariant.4 n d) (omega arith) (λ e. omega arith)
-    _ _ c.in-ok-piece.ensures.splits c.loop-i.invariant.2 c.in-err-j.ensures.fits in
-    rw c.from-residual-in-err-j.ensures (omega arith)
+    _ _ c.in_ok-piece.ensures.splits c.loop-i.invariant.2 c.in_err-j.ensures.fits in
+    rw c.from_residual-in_err-j.ensures (omega arith)
 
 pub loop-i-preserved : goal.loop-i-preserved
 loop-i-preserved c =
-    let p = c.in-ok-piece.ensures in
-    let w = c.in-ok-j.ensures in (
+    let p = c.in_ok-piece.ensures in
+    let w = c.in_ok-j.ensures in (
       p.ends.1,
       omega (arith, w.fits.0),
       omega (arith, w.fits.1),
