@@ -3,10 +3,7 @@ use Rattle.linter.proofs.Bytes.{lengths}
 use Rattle.linter.proofs.Tallies.{tells-room}
 use Rattle.linter.proofs.Walks.{passed, counted, exists, only}
 use Rattle.linter.proofs.survey.survey.Goals as goal
-use Rattle.linter.proofs.survey.survey.Goals.{then-not-is-half-of-pair+in_ok-add, else-not-is-half-of-pair}
-
-pub is-half-of-pair-requires : goal.is_half_of_pair-requires
-is-half-of-pair-requires c = omega (arith, lengths _ _ _ _ c.in-Some.ensures.reads)
+use Rattle.linter.proofs.survey.survey.Goals.{then-not-is_half_of_pair+in_ok-add, else-not-is_half_of_pair}
 
 pub add-requires : goal.add-requires
 add-requires c =
@@ -27,7 +24,7 @@ loop-line-preserved c =
     let l = c.in-Some.ensures.reads in
     let before = c.loop-line.invariant in
     elim c.if-not-is_half_of_pair.branch [
-      | then-not-is-half-of-pair+in_ok-add w ↦
+      | then-not-is_half_of_pair+in_ok-add w ↦
           rw w.survey-is (counted _ _ _ _ _ _ l before w.add.new.self w.judge.result w.judge.ensures.judged w.in_ok-add.ensures w.if-not-is_half_of_pair.ensures)
       | else-not-is_half_of_pair w ↦ rw w.survey-is (passed _ _ _ _ _ _ l before w.if-not-is_half_of_pair.ensures)
     ]
