@@ -1,6 +1,6 @@
 -- The terms of a book. A term is an IRI, a literal or a blank, and is known by its number, its place in the list of terms.
 -- A name, an IRI or a literal, has its spelling with it, in bytes. Assumes nothing.
-use Rattle.std.specs.Prelude.{◌≡◌, ℕ, suc, Bool, true, false, cond, ◌&&◌, List, [], ◌∷◌, ◌++◌, map, take, codes, ◌==◌, nat_le, slice_index_or}
+use Rattle.std.specs.Prelude.{◌≡◌, ℕ, suc, Bool, true, false, cond, ◌&&◌, List, [], ◌∷◌, ◌++◌, take, codes, ◌==◌, nat_le, slice_index_or}
 
 pub data Term : Type 0 where
   iri : List ℕ → Term

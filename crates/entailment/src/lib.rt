@@ -1,6 +1,8 @@
 // What follows from kept triples: the entailment patterns and the closure under them, the worlds of RDF and RDFS, and the
-// theorem between the two. Nearly all of it is statements, in specs/, and their proofs; the theorems stand on the contracts
-// of the functions in `theorems`.
+// theorem between the two. Not finished: the theorems stand as statements in specs/ alone, and nothing proves them yet.
+// `theorems.rt.txt` has the functions whose contracts they are to be.
+
+#![tactic(auto)]
+
 pub mod goal;
 pub mod regime;
-pub mod theorems;
