@@ -25,7 +25,7 @@ import os, subprocess, sys, time
 size = os.path.getsize(sys.argv[1]) / 1e6
 best = {}
 for _ in range(5):
-    for name, command in (("ntcheck", ["target/bin/ntcheck"]), ("serdi", ["serdi", "-i", "ntriples", "-o", "ntriples", sys.argv[1]])):
+    for name, command in (("ntcheck", ["crates/ntcheck/out/ntcheck"]), ("serdi", ["serdi", "-i", "ntriples", "-o", "ntriples", sys.argv[1]])):
         with open(sys.argv[1], "rb") as f:
             start = time.perf_counter()
             subprocess.run(command, stdin=f, stdout=subprocess.DEVNULL, check=True)

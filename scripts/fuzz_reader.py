@@ -3,7 +3,7 @@
 
 The second reader is the grammar written as two regular expressions, with and without \\u and \\U, matched in
 part: the first place where a line cannot go on is the shortest prefix that no line begins with. It needs the Python
-package `regex`, for partial matches, and a built ntcheck.
+package `regex` (Debian: python3-regex), for partial matches, and a built ntcheck (rt run in crates/ntcheck builds it).
 
 usage: scripts/fuzz_reader.py [ROUNDS [SEED]]
 """
@@ -12,6 +12,9 @@ import subprocess
 import sys
 
 import regex
+
+# as rt run builds it, from the top of the repository
+PROGRAM = "crates/ntcheck/out/ntcheck"
 
 IRI_CHAR = rb"[!#-;=?-\[\]_a-z~\x7f]"
 STRING_CHAR = rb"[\x00-\x09\x0b\x0c\x0e-!#-\[\]-\x7f]"
@@ -117,8 +120,8 @@ def main():
     rng = random.Random(int(sys.argv[2]) if len(sys.argv) > 2 else 1)
     for i in range(rounds):
         text = sheet(rng)
-        if told(text, "target/bin/ntcheck") != survey(text):
-            print("differs on", text, told(text, "target/bin/ntcheck"), survey(text))
+        if told(text, PROGRAM) != survey(text):
+            print("differs on", text, told(text, PROGRAM), survey(text))
             sys.exit(1)
     print(f"{rounds} sheets, no difference")
 

@@ -20,7 +20,7 @@ position-named (iri b) h = tt
 position-named (literal b) h = tt
 position-named blank h = h
 
--- what where-from finds passes each weaker test
+-- what where_from finds passes each weaker test
 Found : (Term → Bool) → ℕ → List Term → ℕ → Type 0
 Found g k ts n = (k ≤ n) × T (g (get_or ts (n - k) blank))
 

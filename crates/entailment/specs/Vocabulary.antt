@@ -1,4 +1,4 @@
--- The numbers of the thirty IRIs, under their local names; CMP is ContainerMembershipProperty and position-1 is _1.
+-- The numbers of the thirty IRIs, under their local names; CMP is ContainerMembershipProperty and position_1 is _1.
 -- Assumes nothing.
 use Rattle.std.specs.Prelude.{ℕ}
 

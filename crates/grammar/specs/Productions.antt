@@ -1,5 +1,5 @@
 -- The lines of RDF 1.1 N-Triples over bytes up to 127, with labels of letters, digits and `_`.
--- The productions have the names of the W3C grammar (with `-` for `_`) and are put together as it does.
+-- The productions have the names of the W3C grammar and are put together as it does.
 -- Assumes nothing.
 use Rattle.std.specs.Prelude.{ℕ, List, [], ◌∷◌}
 use Rattle.grammar.specs.Regular.{Range, to, Expr, never, empty, one, ◌then◌, ◌or◌, many}
