@@ -1,5 +1,7 @@
 // A store over any store that counts its calls, to measure the work of code over stores. What it means is what the store
 // below means.
+#![tactic(auto)]
+
 ghost use Rattle.std.specs.Prelude.{◌≡◌};
 ghost use Rattle.triples.specs.Sets.{empty};
 ghost use Rattle.triples.specs.Stores.{Adds};

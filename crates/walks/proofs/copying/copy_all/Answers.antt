@@ -30,7 +30,7 @@ loop-candidate-preserved g c =
     let at = c.after-candidate in
     let here : f t ≡ true = subst (Current f) c.in-Some.is i.2 in
     let was : to.held c.loop-candidate.to ≡ union (below (code_of t) f) g₀ = i.3 ∙ ap (λ (x : Option Triple). union (passed x f) g₀) c.in-Some.is in
-    let puts = adds-puts _ _ (to.held c.loop-candidate.to) t (to.held c.add.new.self) c.in-default-add.field-0 c.in-default-add.ensures.adds in (
+    let puts = adds-puts _ _ (to.held c.loop-candidate.to) t (to.held c.add.new.self) c.in_default-add.field-0 c.in_default-add.ensures.adds in (
       c.add.ensures.side ∙ i.0,
       c.add.ensures.capacity ∙ i.1,
       steps-current w t here at.result at.ensures,

@@ -13,8 +13,8 @@ loop-candidate-init g c =
     let w = walk_of (store.side_of s) (store.capacity_of s) (store.held s) c.args.pattern (store.lawful s) in
     (starts-current w c.args.start c.requires, sym (ap size (starts_none w c.args.start c.requires) ∙ size-empty))
 
-pub overflow-add-n : goal.overflow-add-n
-overflow-add-n g c = omega (arith, c.loop-candidate.invariant.1, size_le (passed c.loop-candidate.candidate (selected (g.S.TripleStore.held c.args.store.now) c.args.pattern)))
+pub overflow_add-n : goal.overflow_add-n
+overflow_add-n g c = omega (arith, c.loop-candidate.invariant.1, size_le (passed c.loop-candidate.candidate (selected (g.S.TripleStore.held c.args.store.now) c.args.pattern)))
 
 pub loop-candidate-preserved : goal.loop-candidate-preserved
 loop-candidate-preserved g c =
