@@ -9,11 +9,11 @@ use Rattle.triples.specs.Sets.{among}
 use Rattle.list_store.proofs.Among.{among-more, among-at}
 use Rattle.list_store.proofs.records.position.Goals as goal
 
-pub returns-then-is-same : goal.returns-then-is-same
-returns-then-is-same c =
+pub returns-then-is_same : goal.returns-then-is_same
+returns-then-is_same c =
     let ts = c.args.records.now in
     let i = c.loop-i.i in
-    let is : get_or ts i (triple_of 0) ≡ c.args.triple = c.is-same.ensures.0 c.if-is-same.true in
+    let is : get_or ts i (triple_of 0) ≡ c.args.triple = c.is_same.ensures.0 c.if-is_same.true in
     record {
       first = (c.loop-i-test.true, (λ d. get_or_default ts i d (triple_of 0) c.loop-i-test.true ∙ is), c.loop-i.invariant);
       found = sym (ap (among ts) (sym is) ∙ among-at ts i (triple_of 0) c.loop-i-test.true);
@@ -25,7 +25,7 @@ loop-i-preserved c =
     let x : Triple = get_or ts c.loop-i.i (triple_of 0) in
     ap (λ f. f c.args.triple) (among-more ts c.loop-i.i (triple_of 0) c.loop-i-test.true)
     ∙ adding_off (among (take c.loop-i.i ts)) x c.args.triple
-    (λ e. not_from_Decides c.is-same.result c.is-same.ensures c.if-is-same.false (sym e))
+    (λ e. not_from_Decides c.is_same.result c.is_same.ensures c.if-is_same.false (sym e))
     ∙ c.loop-i.invariant
 
 pub returns : goal.returns

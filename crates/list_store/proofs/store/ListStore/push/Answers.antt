@@ -8,19 +8,18 @@ use Rattle.triples.proofs.Graphs.{adding_cases}
 use Rattle.list_store.proofs.Among.{among-put}
 use Rattle.list_store.proofs.store.ListStore.push.Goals as goal
 
-pub invariant-of-self : goal.invariant-of-self
-invariant-of-self c =
+pub invariant_of-self : goal.invariant_of-self
+invariant_of-self c =
     let s = c.args.self.now in
     let t : Triple = c.args.triple in
     let f : Graph = among (take s.len s.records.now) in
     let put = among-put s.records.now s.len t c.requires.1 in
-    let inside : Inside width t = (omega arith, omega arith, omega arith) in (
-      (simp length-set (omega arith), simp length-set (omega arith)),
-      (
-        ap size put ∙ size-adding f t inside c.requires.0 ∙ ap (λ n. n + 1) s.counted,
-        ((λ u h. ⊎_elim (λ e. subst (Inside width) (sym e) inside) (s.within u) (adding_cases f t u (ap (λ (g : Graph). g u) (sym put) ∙ h))), tt),
-      ),
-    )
+    let inside : Inside width t = (omega arith, omega arith, omega arith) in
+    record {
+      room = (simp length-set (omega arith), simp length-set (omega arith));
+      counted = ap size put ∙ size-adding f t inside c.requires.0 ∙ ap (λ n. n + 1) s.counted;
+      within = λ u h. ⊎_elim (λ e. subst (Inside width) (sym e) inside) (s.within u) (adding_cases f t u (ap (λ (g : Graph). g u) (sym put) ∙ h));
+    }
 
 pub returns : goal.returns
 returns c =

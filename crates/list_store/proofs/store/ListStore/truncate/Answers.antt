@@ -5,12 +5,12 @@ use Rattle.list_store.proofs.Among.{among_first}
 use Rattle.list_store.proofs.Growth.{first_counted}
 use Rattle.list_store.proofs.store.ListStore.truncate.Goals as goal
 
-pub invariant-of-self : goal.invariant-of-self
-invariant-of-self c =
-    let s = c.args.self.now in (
-      (omega arith, omega arith),
-      (
-        first_counted s.records.now (triple_of 0) s.len c.args.n s.room.1 (omega arith) s.counted,
-        ((λ t h. s.within t (among_first s.records.now c.args.n s.len t (omega arith) h)), tt),
-      ),
-    )
+pub invariant_of-self-clause-counted : goal.invariant_of-self-clause-counted
+invariant_of-self-clause-counted c =
+    let s = c.args.self.now in
+    first_counted s.records.now (triple_of 0) s.len c.args.n s.room.1 (omega arith) s.counted
+
+pub invariant_of-self-clause-within : goal.invariant_of-self-clause-within
+invariant_of-self-clause-within c =
+    let s = c.args.self.now in
+    λ t h. s.within t (among_first s.records.now c.args.n s.len t (omega arith) h)
