@@ -8,8 +8,8 @@ use Rattle.cube_store.proofs.layout.is_marked.Goals as goal
 pub returns-then-inside : goal.returns-then-inside
 returns-then-inside c =
     let t = c.args.triple in
-    c.has-bit.ensures
-    ∙ ap (λ w. bit_at w t.object) c.word-at.ensures
+    c.has_bit.ensures
+    ∙ ap (λ w. bit_at w t.object) c.word_at.ensures
     ∙ sym (bits_in c.args.words.now t (c.inside.ensures.0 c.if-inside.true))
 
 pub returns-else-inside : goal.returns-else-inside

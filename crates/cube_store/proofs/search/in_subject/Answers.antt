@@ -9,7 +9,7 @@ loop-predicate-init c u r h =
 
 pub loop-predicate-preserved : goal.loop-predicate-preserved
 loop-predicate-preserved c u r h =
-    omega (arith, subject-more c.args.words.now c.args.question c.args.subject c.loop-predicate.predicate c.loop-predicate.invariant c.in-default.ensures u r h)
+    omega (arith, subject-more c.args.words.now c.args.question c.args.subject c.loop-predicate.predicate c.loop-predicate.invariant c.in_default.ensures u r h)
 
 pub returns-in-Some : goal.returns-in-Some
 returns-in-Some c =

@@ -9,7 +9,7 @@ loop-subject-init c u h =
 
 pub loop-subject-preserved : goal.loop-subject-preserved
 loop-subject-preserved c u h =
-    omega (arith, cube-more c.args.words.now c.args.question c.loop-subject.subject c.loop-subject.invariant c.in-default.ensures u h)
+    omega (arith, cube-more c.args.words.now c.args.question c.loop-subject.subject c.loop-subject.invariant c.in_default.ensures u h)
 
 pub returns-in-Some : goal.returns-in-Some
 returns-in-Some c =
