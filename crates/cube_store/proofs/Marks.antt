@@ -1,7 +1,7 @@
 -- What the words mean when they are wiped, and when a triple's bit is set.
 use Rattle.std.proofs.Common.{◌≡◌, ℕ, ◌^◌, ◌≤◌, Bool, true, false, ◌&&◌, List, length, get_or, sym, refl, ap, ◌∙◌, ⊎_elim, arith}
-use mathlib.Core.Path.{fun_ext}
-use lib.Bits.{bit_or}
+use Rattle.std.proofs.Math.Path.{fun_ext}
+use Rattle.std.specs.Int.Bits.{bit_or}
 use Rattle.std.proofs.lemmas.List.{get_or-set_same, get_or-set_other}
 use Rattle.std.proofs.lemmas.Bool.{cases_eq, cases_Bool, and_from, and_right, lt-ltb}
 use Rattle.triples.specs.declared.triple.Triple.{Triple}

@@ -1,7 +1,7 @@
 -- The bits of a word: one bit more, no bit, and the bits of a shifted word.
 use Rattle.std.proofs.Common.{◌≡◌, ℕ, zero, suc, ◌+◌, ◌-◌, ◌/◌, ◌%◌, ◌^◌, ◌<◌, true, false, eqb, ◌≢◌, sym, refl, ap, ◌∙◌, ⊎_elim, one-mul, arith}
-use native.Mathlib.Nat.{zero-div, div-eq_of_lt}
-use lib.Bits.{bit_or, or_zero_r}
+use Rattle.std.proofs.Math.Nat.{zero-div, div-eq_of_lt}
+use Rattle.std.specs.Int.Bits.{bit_or, or_zero_r}
 use Rattle.std.proofs.lemmas.Nat.{pow-add, shl-shr, shr-shr, pow_below, or_shr, or_mod}
 use Rattle.std.proofs.lemmas.Bool.{cases_order, eq-eqb}
 use Rattle.cube_store.specs.Bits.{bit_at}

@@ -1,6 +1,6 @@
 -- The bits below a word's trailing zeros, and the least set bit from a bit on.
 use Rattle.std.proofs.Common.{◌≡◌, ℕ, zero, suc, ◌+◌, ◌-◌, ◌/◌, ◌%◌, ◌^◌, ◌<◌, ◌≤◌, true, false, sym, refl, ap, ◌∙◌, ⊎_elim, one-add, arith}
-use lib.Count.{count_trailing_zeros, under}
+use Rattle.std.specs.Int.Count.{count_trailing_zeros, under}
 use Rattle.std.proofs.lemmas.Bool.{cases_lt, both_ways, eq-eqb, ne_eqb}
 use Rattle.cube_store.specs.Bits.{bit_at}
 use Rattle.cube_store.proofs.WordBits.{bit_shr}

@@ -1,6 +1,6 @@
 -- A set with one triple more.
 use Rattle.std.proofs.Common.{◌≡◌, true, ◌||◌, ◌⊎◌, sym, refl, ap, ◌∙◌, inl, inr, ⊎_elim}
-use mathlib.Core.Path.{fun_ext}
+use Rattle.std.proofs.Math.Path.{fun_ext}
 use Rattle.std.proofs.lemmas.Bool.{or_cases, or_right}
 use Rattle.triples.specs.declared.triple.Triple.{Triple}
 use Rattle.triples.specs.Sets.{Graph, same, adding}

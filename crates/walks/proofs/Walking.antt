@@ -1,6 +1,7 @@
 -- How far a walk has come: what it has passed when it stands at a candidate, and what one step adds to that.
-use Rattle.std.proofs.Common.{◌≡◌, ℕ, ◌+◌, ◌-◌, ◌<◌, ◌≤◌, Bool, true, false, ◌||◌, ltb, Some, None, Option, sym, refl, ap, ◌∙◌, ⊎_elim, arith}
-use mathlib.Core.Path.{fun_ext}
+use Rattle.std.proofs.Common.{◌≡◌, ℕ, ◌+◌, ◌-◌, ◌<◌, ◌≤◌, true, false, ltb, Some, None, Option, sym, ap, ◌∙◌, ⊎_elim, arith}
+use Rattle.std.proofs.Math.Path.{fun_ext}
+use Rattle.std.proofs.Math.Bool.{or_assoc}
 use Rattle.std.proofs.lemmas.Bool.{cases_Bool, cases_lt, cases_order, both_ways, and_from, and_left, and_right, lt-ltb, le-ltb}
 use Rattle.triples.specs.declared.triple.Triple.{Triple}
 use Rattle.triples.specs.declared.question.Pattern.{Pattern}
@@ -32,13 +33,9 @@ left (Some t) = codes - code_of t
 pub below_self : (g : Graph) (t : Triple) → below (code_of t) g t ≡ false
 below_self g t = and_left (ltb (code_of t) (code_of t)) (g t) (le-ltb (code_of t) (code_of t) (omega arith))
 
-union-adding : (a b c : Bool) → (a || (b || c)) ≡ ((a || b) || c)
-union-adding true b c = refl
-union-adding false b c = refl
-
 -- a triple more in the first of two sets
 pub union_more : (f g : Graph) (t : Triple) → adding (union f g) t ≡ union (adding f t) g
-union_more f g t = fun_ext (λ u. union-adding (same u t) (f u) (g u))
+union_more f g t = fun_ext (λ u. sym (or_assoc (same u t) (f u) (g u)))
 
 -- a walk through the triples of f that fit p, which are those of g
 pub record Walk (f : Graph) (p : Pattern) (g : Graph) : Type 0 where
