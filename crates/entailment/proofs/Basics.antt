@@ -1,6 +1,6 @@
 -- Facts on tests, and on what holds of the elements of a list.
 use Rattle.std.proofs.Common.{◌≡◌, suc, Bool, true, false, cond, ◌&&◌, ◌||◌, T, List, [], ◌∷◌, map, refl, subst, suc-le-suc, zero-le}
-use Rattle.std.specs.List.{ContainsAt as Has, AllByRecursion as All}
+use Rattle.std.specs.List.{ContainsAt as Has, AllByRecursion}
 use Rattle.std.proofs.ByRecursion.{all-has, all_has_itself}
 
 pub and_left : (a b : Bool) → T (a && b) → T a
@@ -23,7 +23,7 @@ abbrev pub allb : {X : Type 0} → (X → Bool) → List X → Bool
 allb f [] = true
 allb f (x ∷ xs) = f x && allb f xs
 
-pub all-by_test : {X : Type 0} (P : X → Type 0) (f : X → Bool) → ((x : X) → T (f x) → P x) → (xs : List X) → T (allb f xs) → All P xs
+pub all-by_test : {X : Type 0} (P : X → Type 0) (f : X → Bool) → ((x : X) → T (f x) → P x) → (xs : List X) → T (allb f xs) → AllByRecursion P xs
 all-by_test P f h [] t = tt
 all-by_test P f h (x ∷ xs) t = (h x (and_left (f x) (allb f xs) t), all-by_test P f h xs (and_right (f x) (allb f xs) t))
 
@@ -33,7 +33,7 @@ has_first x xs = (0, suc-le-suc zero-le, λ d. refl)
 pub has_later : {X : Type 0} (x y : X) (xs : List X) → Has xs y → Has (x ∷ xs) y
 has_later x y xs h = (suc h.0, suc-le-suc h.1, λ d. h.2 d)
 
-pub all_unmap : {X Y : Type 0} (f : X → Y) (P : Y → Type 0) (xs : List X) → All P (map f xs) → All (λ x. P (f x)) xs
+pub all_unmap : {X Y : Type 0} (f : X → Y) (P : Y → Type 0) (xs : List X) → AllByRecursion P (map f xs) → AllByRecursion (λ x. P (f x)) xs
 all_unmap f P [] h = tt
 all_unmap f P (x ∷ xs) h = (h.0, all_unmap f P xs h.1)
 
@@ -53,10 +53,10 @@ has_by_test f y h (x ∷ xs) t = go (f x) (h x) t (has_by_test f y h xs)
     go true e u below = subst (λ z. Has (x ∷ xs) z) (e tt) (has_first x xs)
     go false e u below = has_later x y xs (below u)
 
-pub all-premises : {X : Type 0} (P : X → Type 0) (xs : List X) → ((x : X) → Has xs x → P x) → All P xs
+pub all-premises : {X : Type 0} (P : X → Type 0) (xs : List X) → ((x : X) → Has xs x → P x) → AllByRecursion P xs
 all-premises P [] h = tt
 all-premises P (x ∷ xs) h = (h x (has_first x xs), all-premises P xs (λ y k. h y (has_later x y xs k)))
 
-pub all_both : {X : Type 0} (P Q R : X → Type 0) → ((x : X) → P x → Q x → R x) → (xs : List X) → All P xs → All Q xs → All R xs
+pub all_both : {X : Type 0} (P Q R : X → Type 0) → ((x : X) → P x → Q x → R x) → (xs : List X) → AllByRecursion P xs → AllByRecursion Q xs → AllByRecursion R xs
 all_both P Q R f [] p q = tt
 all_both P Q R f (x ∷ xs) p q = (f x p.0 q.0, all_both P Q R f xs p.1 q.1)

@@ -1,6 +1,6 @@
 -- The start sets speak of names only, and of each name.
 use Rattle.std.proofs.Common.{◌≡◌, ℕ, zero, suc, ◌+◌, ◌-◌, ◌<◌, ◌≤◌, Bool, true, false, cond, ◌&&◌, T, List, [], ◌∷◌, ◌++◌, length, get_or, sym, subst, suc-le-suc, le_of_suc-le-suc, not-suc-le-zero, arith}
-use Rattle.std.specs.List.{ContainsAt as Has, AllByRecursion as All}
+use Rattle.std.specs.List.{ContainsAt as Has, AllByRecursion}
 use Rattle.std.proofs.ByRecursion.{All-append, All-map, All-weaker}
 use Rattle.triples.specs.declared.triple.Triple.{Triple}
 use Rattle.entailment.specs.declared.regime.Regime.{Regime}
@@ -32,17 +32,17 @@ first_found : (g : Term → Bool) (k : ℕ) (t : Term) (ts : List Term) → T (g
 unfolding Found
 first_found g k t ts h = let e : k - k ≡ 0 = omega arith in (omega arith, subst (λ i. T (g (get_or (t ∷ ts) i blank))) (sym e) h)
 
-all-cond : (P : ℕ → Type 0) (b : Bool) (k : ℕ) (ns : List ℕ) → (T b → P k) → All P ns → All P (cond b (k ∷ ns) ns)
+all-cond : (P : ℕ → Type 0) (b : Bool) (k : ℕ) (ns : List ℕ) → (T b → P k) → AllByRecursion P ns → AllByRecursion P (cond b (k ∷ ns) ns)
 all-cond P true k ns h r = (h tt, r)
 all-cond P false k ns h r = r
 
-found : (f g : Term → Bool) → ((t : Term) → T (f t) → T (g t)) → (k : ℕ) (ts : List Term) → All (Found g k ts) (where_from f k ts)
+found : (f g : Term → Bool) → ((t : Term) → T (f t) → T (g t)) → (k : ℕ) (ts : List Term) → AllByRecursion (Found g k ts) (where_from f k ts)
 found f g imp k [] = tt
 found f g imp k (t ∷ ts) =
     all-cond (Found g k (t ∷ ts)) (f t) k (where_from f (suc k) ts) (λ h. first_found g k t ts (imp t h))
     (All-weaker (Found g (suc k) ts) (Found g k (t ∷ ts)) (further g k t ts) (where_from f (suc k) ts) (found f g imp (suc k) ts))
 
-found-named : (f : Term → Bool) → ((t : Term) → T (f t) → T (named t)) → (ts : List Term) → All (λ n. T (is_name ts n)) (where_from f 0 ts)
+found-named : (f : Term → Bool) → ((t : Term) → T (f t) → T (named t)) → (ts : List Term) → AllByRecursion (λ n. T (is_name ts n)) (where_from f 0 ts)
 unfolding Found
 found-named f imp ts =
     All-weaker (Found named 0 ts) (λ n. T (is_name ts n)) (λ n h. let e : n - 0 ≡ n = omega arith in subst (λ i. T (named (get_or ts i blank))) e h.1)
@@ -77,23 +77,23 @@ module _ (more : List Term) where
   abbrev ts : List Term
   ts = thirty ++ more
 
-  fixed : (xs : List Triple) → T (allb (λ t. (is_name ts t.subject && is_name ts t.predicate) && is_name ts t.object) xs) → All (Named ts) xs
+  fixed : (xs : List Triple) → T (allb (λ t. (is_name ts t.subject && is_name ts t.predicate) && is_name ts t.object) xs) → AllByRecursion (Named ts) xs
   fixed xs h = all-by_test (Named ts) (λ t. (is_name ts t.subject && is_name ts t.predicate) && is_name ts t.object)
       (λ t u. let l = and_left (is_name ts t.subject && is_name ts t.predicate) (is_name ts t.object) u in
       (and_left (is_name ts t.subject) (is_name ts t.predicate) l, and_right (is_name ts t.subject) (is_name ts t.predicate) l, and_right (is_name ts t.subject && is_name ts t.predicate) (is_name ts t.object) u))
       xs h
 
-  several : (a y : ℕ) → T (is_name ts a) → T (is_name ts y) → (xs : List ℕ) → All (λ n. T (is_name ts n)) xs → All (Named ts) (each a y xs)
+  several : (a y : ℕ) → T (is_name ts a) → T (is_name ts y) → (xs : List ℕ) → AllByRecursion (λ n. T (is_name ts n)) xs → AllByRecursion (Named ts) (each a y xs)
   several a y ha hy xs h = All-map (Named ts) (λ x. triple x a y) xs (All-weaker (λ n. T (is_name ts n)) (λ x. Named ts (triple x a y)) (λ x n. (n, ha, hy)) xs h)
 
-  positions : All (λ n. T (is_name ts n)) (positions_of ts)
+  positions : AllByRecursion (λ n. T (is_name ts n)) (positions_of ts)
   positions = found-named position position-named ts
 
-  rdf-named : All (Named ts) (rdf_start ts)
+  rdf-named : AllByRecursion (Named ts) (rdf_start ts)
   unfolding thirty rdf rdfs
   rdf-named = All-append (Named ts) rdf_fixed (each #type #Property (positions_of ts)) (fixed rdf_fixed tt) (several #type #Property tt tt (positions_of ts) positions)
 
-  rdfs-named : All (Named ts) (rdfs_start ts)
+  rdfs-named : AllByRecursion (Named ts) (rdfs_start ts)
   unfolding thirty rdf rdfs
   rdfs-named =
       let last = each #range #Resource (positions_of ts) in
@@ -106,7 +106,7 @@ module _ (more : List Term) where
       (All-append (Named ts) third last (several #domain #Resource tt tt (positions_of ts) positions)
       (several #range #Resource tt tt (positions_of ts) positions))))
 
-  pub start-named : (r : Regime) → All (Named ts) (start r ts)
+  pub start-named : (r : Regime) → AllByRecursion (Named ts) (start r ts)
   start-named Simple = tt
   start-named Rdf = rdf-named
   start-named Rdfs = All-append (Named ts) (rdf_start ts) (rdfs_start ts) rdf-named rdfs-named

@@ -1,7 +1,7 @@
 -- The closure: the least set of triples that holds the start set, the kept triples, and each row's conclusion whose
 -- premises it holds. Assumes nothing.
 use Rattle.std.specs.Prelude.{ℕ, ◌<◌, Bool, true, not, ◌&&◌, T, List, [], ◌∷◌, length}
-use Rattle.std.specs.List.{ContainsAt as Has, AllByRecursion as All}
+use Rattle.std.specs.List.{ContainsAt as Has, AllByRecursion}
 use Rattle.triples.specs.declared.triple.Triple.{Triple}
 use Rattle.triples.specs.Sets.{Graph, among}
 use Rattle.entailment.specs.declared.regime.Regime.{Regime}
@@ -14,7 +14,7 @@ use Rattle.entailment.specs.Starts.{start}
 pub record Closed (r : Regime) (ts : List Term) (kept : List Triple) (set : Graph) : Type 0 where
   pub starts : (t : Triple) → Has (start r ts) t → T (set t)
   pub keeps : (t : Triple) → Has kept t → T (set t)
-  pub rows : (row : Row) → T (uses r row) → (σ : ℕ → ℕ) → All (λ f. T (set (reading σ f))) (premises row) → T (set (reading σ (conclusion row)))
+  pub rows : (row : Row) → T (uses r row) → (σ : ℕ → ℕ) → AllByRecursion (λ f. T (set (reading σ f))) (premises row) → T (set (reading σ (conclusion row)))
 
 -- a triple lies in every closed set
 abbrev pub InClosure : Regime → List Term → List Triple → Triple → Type 0
@@ -38,4 +38,4 @@ different (t ∷ ts) = not (among ts t) && different ts
 
 -- the closure exceeds n: more than n different triples all lie in it
 abbrev pub Exceeds : Regime → List Term → List Triple → ℕ → Type 0
-Exceeds r ts kept n = (l : List Triple) × T (different l) × (n < length l) × All (InClosure r ts kept) l
+Exceeds r ts kept n = (l : List Triple) × T (different l) × (n < length l) × AllByRecursion (InClosure r ts kept) l

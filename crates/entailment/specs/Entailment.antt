@@ -1,6 +1,6 @@
 -- Goals, when the kept triples entail one, and when one embeds in a set. Assumes nothing.
 use Rattle.std.specs.Prelude.{ℕ, ◌<◌, T, List, length}
-use Rattle.std.specs.List.{AllByRecursion as All}
+use Rattle.std.specs.List.{AllByRecursion}
 use Rattle.triples.specs.declared.triple.Triple.{Triple}
 use Rattle.triples.specs.Codes.{Inside}
 use Rattle.triples.specs.Sets.{Graph}
@@ -27,11 +27,11 @@ put m g = filled (λ n. n) m g
 
 -- some map of goal blanks to terms puts every row into the set
 abbrev pub Embeds : List Term → Graph → List GoalRow → Type 0
-Embeds ts set goal = (m : ℕ → ℕ) × ((k : ℕ) → m k < length ts) × All (λ g. T (set (put m g))) goal
+Embeds ts set goal = (m : ℕ → ℕ) × ((k : ℕ) → m k < length ts) × AllByRecursion (λ g. T (set (put m g))) goal
 
 -- a goal is true in a world: some assignment of things to its blanks, its own, makes each row true
 abbrev pub GoalTrue : {ts : List Term} → World ts → List GoalRow → Type 0
-GoalTrue w goal = (m : ℕ → ℕ) × Assigns w m × All (λ g. True w (λ x. x) (filled w.denotes m g)) goal
+GoalTrue w goal = (m : ℕ → ℕ) × Assigns w m × AllByRecursion (λ g. True w (λ x. x) (filled w.denotes m g)) goal
 
 -- every world of the regime that makes the kept triples true makes the goal true
 abbrev pub Entails : Regime → List Term → List Triple → List GoalRow → Type 0
@@ -53,5 +53,5 @@ OfTerms ts t = Inside (length ts) t
 abbrev pub Entailment : Type 0
 Entailment =
     (r : Regime) (ts : List Term) (kept : List Triple) (goal : List GoalRow) (set : Graph)
-    → Begins ts → All (OfTerms ts) kept → All (RowNamed ts) goal → Closure r ts kept set
+    → Begins ts → AllByRecursion (OfTerms ts) kept → AllByRecursion (RowNamed ts) goal → Closure r ts kept set
     → (Embeds ts set goal → Entails r ts kept goal) × (Entails r ts kept goal → Embeds ts set goal)

@@ -1,6 +1,6 @@
 -- The examples of the halls: a regime, terms, kept triples, a goal, and whether it is entailed. Assumes nothing.
 use Rattle.std.specs.Prelude.{ℕ, Bool, true, false, List, [], ◌∷◌, ◌++◌, codes, MatchBool}
-use Rattle.std.specs.List.{AllByRecursion as All}
+use Rattle.std.specs.List.{AllByRecursion}
 use Rattle.triples.specs.declared.triple.Triple.{Triple}
 use Rattle.entailment.specs.declared.regime.Regime.{Regime}
 use Rattle.entailment.specs.declared.regime.Regime.TheVariants.{Simple, Rdf, Rdfs}
@@ -104,4 +104,4 @@ examples =
     ∷ []
 
 abbrev pub ExamplesHold : Type 0
-ExamplesHold = All Holds examples
+ExamplesHold = AllByRecursion Holds examples

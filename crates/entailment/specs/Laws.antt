@@ -1,6 +1,6 @@
 -- Laws of the closure. Assumes nothing.
 use Rattle.std.specs.Prelude.{ℕ, ◌<◌, ◌≤◌, Bool, true, false, T, List, ◌++◌, length}
-use Rattle.std.specs.List.{ContainsAt as Has, AllByRecursion as All}
+use Rattle.std.specs.List.{ContainsAt as Has, AllByRecursion}
 use Rattle.triples.specs.declared.triple.Triple.{Triple}
 use Rattle.triples.specs.Codes.{width}
 use Rattle.triples.specs.Sets.{Graph, among, size}
@@ -13,19 +13,19 @@ use Rattle.entailment.specs.Entailment.{OfTerms}
 -- The closure speaks only of terms of the book.
 abbrev pub StaysWithinTerms : Type 0
 StaysWithinTerms =
-    (r : Regime) (ts : List Term) (kept : List Triple) → Begins ts → All (OfTerms ts) kept
+    (r : Regime) (ts : List Term) (kept : List Triple) → Begins ts → AllByRecursion (OfTerms ts) kept
     → (t : Triple) → InClosure r ts kept t → OfTerms ts t
 
 -- There is a closure, and it is finite: a list of different triples.
 abbrev pub ClosureExists : Type 0
 ClosureExists =
-    (r : Regime) (ts : List Term) (kept : List Triple) → Begins ts → All (OfTerms ts) kept
+    (r : Regime) (ts : List Term) (kept : List Triple) → Begins ts → AllByRecursion (OfTerms ts) kept
     → (l : List Triple) × T (different l) × Closure r ts kept (among l)
 
 -- A triple has a derivation exactly when it lies in every closed set.
 abbrev pub DerivationsAreLeast : Type 0
 DerivationsAreLeast =
-    (r : Regime) (ts : List Term) (kept : List Triple) → Begins ts → All (OfTerms ts) kept
+    (r : Regime) (ts : List Term) (kept : List Triple) → Begins ts → AllByRecursion (OfTerms ts) kept
     → (t : Triple) → (Derives r ts kept t → InClosure r ts kept t) × (InClosure r ts kept t → Derives r ts kept t)
 
 -- the second regime has what the first has
@@ -49,5 +49,5 @@ Grows =
 abbrev pub ExceedsBySize : Type 0
 ExceedsBySize =
     (r : Regime) (ts : List Term) (kept : List Triple) (set : Graph) (n : ℕ)
-    → Begins ts → length ts ≤ width → All (OfTerms ts) kept → Closure r ts kept set
+    → Begins ts → length ts ≤ width → AllByRecursion (OfTerms ts) kept → Closure r ts kept set
     → (Exceeds r ts kept n → n < size set) × (n < size set → Exceeds r ts kept n)

@@ -1,6 +1,6 @@
 -- The worlds of the three regimes. The things of a world are whole numbers, and its sets are given by tests. Assumes nothing.
 use Rattle.std.specs.Prelude.{ℕ, Bool, cond, T, List}
-use Rattle.std.specs.List.{AllByRecursion as All}
+use Rattle.std.specs.List.{AllByRecursion}
 use Rattle.triples.specs.declared.triple.Triple.{Triple}
 use Rattle.entailment.specs.declared.regime.Regime.{Regime}
 use Rattle.entailment.specs.declared.regime.Regime.TheVariants.{Simple, Rdf, Rdfs}
@@ -41,12 +41,12 @@ In w u c = Pairs w #type u c
 pub record RdfWorld {ts : List Term} (w : World ts) : Type 0 where
   pub property_is_typed : (x : ℕ) → T (w.property x) → In w x (w.denotes #Property)
   pub typed_is_property : (x : ℕ) → In w x (w.denotes #Property) → T (w.property x)
-  pub start_is_true : All (TrueOfNames w) (rdf_start ts)
+  pub start_is_true : AllByRecursion (TrueOfNames w) (rdf_start ts)
 
 -- what makes an RDF world an RDFS world
 pub record RdfsWorld {ts : List Term} (w : World ts) : Type 0 where
   pub all_resources : (x : ℕ) → T (w.thing x) → In w x (w.denotes #Resource)
-  pub start_is_true : All (TrueOfNames w) (rdfs_start ts)
+  pub start_is_true : AllByRecursion (TrueOfNames w) (rdfs_start ts)
   pub domains : (a c u v : ℕ) → Pairs w #domain a c → T (w.pairs a u v) → In w u c
   pub ranges : (a c u v : ℕ) → Pairs w #range a c → T (w.pairs a u v) → In w v c
   pub sp_reflexive : (a : ℕ) → T (w.property a) → Pairs w #subPropertyOf a a
@@ -77,4 +77,4 @@ meaning {ts} w g n = cond (is_name ts n) (w.denotes n) (g n)
 
 -- the kept triples are true: one assignment serves all
 abbrev pub MakesTrue : {ts : List Term} → World ts → List Triple → Type 0
-MakesTrue w kept = (g : ℕ → ℕ) × Assigns w g × All (True w (meaning w g)) kept
+MakesTrue w kept = (g : ℕ → ℕ) × Assigns w g × AllByRecursion (True w (meaning w g)) kept
