@@ -10,6 +10,7 @@ ghost use Rattle.ntriples.specs.Answers.{number, bytes_of, term_of, line_reading
 use crate::fault::Fault;
 use crate::scan::{expect, iri_end, label_end, literal_end, run_end, stuck};
 use crate::token::{Line, Located, Statement, Token};
+use grammar::class::{Blanks, CommentChars};
 
 // A term of the line, and where it ends.
 #[derive(Clone, Copy)]
@@ -24,7 +25,7 @@ fn comment_at(line: &[u8], from: usize) -> Result<(), Fault>
     ensures found { MatchResult result (λ _. Is comment (piece line.now from (length line.now))) (λ f. f.offset ≤ length line.now) }
     ensures goes { (s : State) → Stands s line.now (from + 1) remark → IfErr result (λ f. Halts in_line s line.now f.offset (number f.kind)) }
 {
-    let end = run_end::<grammar::class::CommentChars>(line, from + 1);
+    let end = run_end::<CommentChars>(line, from + 1);
     if end < line.len() {
         return Err(stuck(line, end));
     }
@@ -37,7 +38,7 @@ fn rest_at(line: &[u8], from: usize) -> Result<(), Fault>
     ensures found { MatchResult result (λ _. Is rest (piece line.now from (length line.now))) (λ f. f.offset ≤ length line.now) }
     ensures goes { (s : State) → Stands s line.now from ended → IfErr result (λ f. Halts in_line s line.now f.offset (number f.kind)) }
 {
-    let end = run_end::<grammar::class::Blanks>(line, from);
+    let end = run_end::<Blanks>(line, from);
     if end >= line.len() {
         return Ok(());
     }
@@ -129,11 +130,11 @@ fn statement_at<'a>(
     ensures { MatchResult result (λ t. Reads base line.now (line_reading (Line.Triple t))) (λ f. (f.offset ≤ length line.now) × Halts in_line start line.now f.offset (number f.kind)) }
 {
     let subject = subject_at(line, from)?;
-    let middle = run_end::<grammar::class::Blanks>(line, subject.end);
+    let middle = run_end::<Blanks>(line, subject.end);
     let predicate = predicate_at(line, middle)?;
-    let last = run_end::<grammar::class::Blanks>(line, predicate.end);
+    let last = run_end::<Blanks>(line, predicate.end);
     let object = object_at(line, last)?;
-    let stop = run_end::<grammar::class::Blanks>(line, object.end);
+    let stop = run_end::<Blanks>(line, object.end);
     let after = expect(line, stop, b'.')?;
     rest_at(line, after)?;
     let item = Statement {
@@ -161,7 +162,7 @@ fn content<'a>(line: &'a [u8], base: usize) -> Result<Line<'a>, Fault>
     requires fits { base + length line.now < 2 ^ 64 }
     ensures { MatchResult result (λ l. Reads base line.now (line_reading l)) (λ f. (f.offset ≤ length line.now) × Halts in_line start line.now f.offset (number f.kind)) }
 {
-    let from = run_end::<grammar::class::Blanks>(line, 0);
+    let from = run_end::<Blanks>(line, 0);
     if from >= line.len() {
         return Ok(Line::Empty);
     }

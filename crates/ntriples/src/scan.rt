@@ -6,7 +6,9 @@ ghost use Rattle.grammar.specs.Scanner.{Next, dot, Role, follows, State, iri, be
 ghost use Rattle.ntriples.specs.Answers.{number};
 
 use crate::fault::{Fault, FaultKind};
-use grammar::class::Class;
+use grammar::class::{
+    Alnums, Class, EscapeLetters, IriChars, LabelChars, Letters, StringChars, UcharLetters,
+};
 
 // Past the bytes of a class that stand at `from`.
 pub(crate) fn run_end<C: Class>(line: &[u8], from: usize) -> usize
@@ -53,7 +55,7 @@ pub(crate) fn stuck_escape(line: &[u8], pos: usize) -> Fault
     if pos >= line.len() {
         return stuck(line, pos);
     }
-    if <grammar::class::UcharLetters as Class>::contains(line[pos]) {
+    if UcharLetters::contains(line[pos]) {
         return Fault {
             kind: FaultKind::UnicodeEscape,
             offset: pos,
@@ -82,7 +84,7 @@ pub(crate) fn iri_end(line: &[u8], from: usize) -> Result<usize, Fault>
     ensures found { MatchResult result (λ e. (from < e) × (e ≤ length line.now) × Is (IRIREF part) (piece line.now from e)) (λ f. f.offset ≤ length line.now) }
     ensures goes { (s : State) (n : Next) → Stands s line.now (from + 1) (iri n) → MatchResult result (λ e. Stands s line.now e (before n)) (λ f. Halts in_term s line.now f.offset (number f.kind)) }
 {
-    let end = run_end::<grammar::class::IriChars>(line, from + 1);
+    let end = run_end::<IriChars>(line, from + 1);
     if end >= line.len() {
         return Err(stuck(line, end));
     }
@@ -99,7 +101,7 @@ pub(crate) fn label_end(line: &[u8], from: usize) -> Result<usize, Fault>
     ensures goes { (s : State) (n : Role) → Stands s line.now (from + 1) (under n) → MatchResult result (λ e. Ended s line.now e (follows n)) (λ f. Halts in_term s line.now f.offset (number f.kind)) }
 {
     let first = expect(line, from + 1, b':')?;
-    let end = run_end::<grammar::class::LabelChars>(line, first);
+    let end = run_end::<LabelChars>(line, first);
     if end == first {
         return Err(stuck(line, end));
     }
@@ -116,7 +118,7 @@ fn escape_end(line: &[u8], from: usize) -> Result<usize, Fault>
     if letter >= line.len() {
         return Err(stuck_escape(line, letter));
     }
-    if !<grammar::class::EscapeLetters as Class>::contains(line[letter]) {
+    if !EscapeLetters::contains(line[letter]) {
         return Err(stuck_escape(line, letter));
     }
     Ok(letter + 1)
@@ -128,10 +130,10 @@ fn string_end(line: &[u8], from: usize) -> Result<usize, Fault>
     ensures found { MatchResult result (λ e. (from < e) × (e ≤ length line.now) × Is (STRING_LITERAL_QUOTE part) (piece line.now from e)) (λ f. f.offset ≤ length line.now) }
     ensures goes { (s : State) → Stands s line.now (from + 1) string → MatchResult result (λ e. Stands s line.now e quoted) (λ f. Halts in_term s line.now f.offset (number f.kind)) }
 {
-    let mut pos = run_end::<grammar::class::StringChars>(line, from + 1);
+    let mut pos = run_end::<StringChars>(line, from + 1);
     while pos < line.len() && line[pos] == b'\\' {
         let next = escape_end(line, pos)?;
-        pos = run_end::<grammar::class::StringChars>(line, next);
+        pos = run_end::<StringChars>(line, next);
     }
     expect(line, pos, b'"')
 }
@@ -142,7 +144,7 @@ fn subtag_end(line: &[u8], from: usize) -> Result<usize, Fault>
     ensures found { MatchResult result (λ e. (from < e) × (e ≤ length line.now) × Is subtag (piece line.now from e)) (λ f. f.offset ≤ length line.now) }
     ensures goes { (s : State) → Tagged s line.now from → MatchResult result (λ e. Tagged s line.now e) (λ f. Halts in_term s line.now f.offset (number f.kind)) }
 {
-    let end = run_end::<grammar::class::Alnums>(line, from + 1);
+    let end = run_end::<Alnums>(line, from + 1);
     if end == from + 1 {
         return Err(stuck(line, end));
     }
@@ -155,7 +157,7 @@ fn tag_end(line: &[u8], from: usize) -> Result<usize, Fault>
     ensures found { MatchResult result (λ e. (from < e) × (e ≤ length line.now) × Is LANGTAG (piece line.now from e)) (λ f. f.offset ≤ length line.now) }
     ensures goes { (s : State) → Stands s line.now (from + 1) at → MatchResult result (λ e. Ended s line.now e dot) (λ f. Halts in_term s line.now f.offset (number f.kind)) }
 {
-    let letters = run_end::<grammar::class::Letters>(line, from + 1);
+    let letters = run_end::<Letters>(line, from + 1);
     if letters == from + 1 {
         return Err(stuck(line, letters));
     }
