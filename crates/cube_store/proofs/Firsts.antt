@@ -18,35 +18,35 @@ module _ (ws : List ℕ) (q : Question) where
         bits_in ws u i ∙ ap₂ (λ x y. bit_at (get_or ws (row_of x y) 0) u.object) r.0 r.1 ∙ ap (λ v. bit_at v u.object) (sym ew)
 
     -- where the bit of an answer in the row lies
-    row-bit : (u : Triple) → OfRow s p u → Answers (bits ws) q u → (a ≤ u.object) × (u.object < b) × (bit_at w u.object ≡ true)
-    row-bit u r h =
+    row_bit : (u : Triple) → OfRow s p u → Answers (bits ws) q u → (a ≤ u.object) × (u.object < b) × (bit_at w u.object ≡ true)
+    row_bit u r h =
         let i : Inside side u = bits_inside ws u h.0 in
         let x = sp.every u.object i.2 (omega arith) h.1.1.2 in
         (x.0, x.1, sym (row_at u r i) ∙ h.0)
 
-    pub row-none : FirstBit w a b None → FirstIn (OfRow s p) (bits ws) q None
-    row-none f u r h = let x = row-bit u r h in f u.object x.0 x.1 x.2
+    pub row_none : FirstBit w a b None → FirstIn (OfRow s p) (bits ws) q None
+    row_none f u r h = let x = row_bit u r h in f u.object x.0 x.1 x.2
 
-    pub row-some : (o : ℕ) → (s < side) × Fit q.pattern.subject s → (p < side) × Fit q.pattern.predicate p → FirstBit w a b (Some o) → First (OfRow s p) (bits ws) q (record { subject = s; predicate = p; object = o })
-    row-some o hs hp f =
+    pub row_some : (o : ℕ) → (s < side) × Fit q.pattern.subject s → (p < side) × Fit q.pattern.predicate p → FirstBit w a b (Some o) → First (OfRow s p) (bits ws) q (record { subject = s; predicate = p; object = o })
+    row_some o hs hp f =
         let t : Triple = record { subject = s; predicate = p; object = o } in
         let x = sp.fits o f.0 f.1 in
         let i : Inside side t = (hs.0, hp.0, omega (arith, sp.inside)) in
         record {
           part = (refl, refl);
           answers = (row_at t (refl, refl) i ∙ f.2, (omega arith, (hs.1, hp.1, x.1)));
-          first = λ u r h. let y = row-bit u r h in let z : o ≤ u.object = f.3 u.object y.0 y.2 in omega arith;
+          first = λ u r h. let y = row_bit u r h in let z : o ≤ u.object = f.3 u.object y.0 y.2 in omega arith;
         }
 
   module _ (s : ℕ) where
-    pub subject-in : (n a b : ℕ) → n ≡ (q.lowest - code_of (record { subject = s; predicate = 0; object = 0 })) / width → Spans q.pattern.predicate n a b → (u : Triple) → OfSubject s u → Answers (bits ws) q u → (a ≤ u.predicate) × (u.predicate < b)
-    subject-in n a b en sp u r h =
+    pub subject_in : (n a b : ℕ) → n ≡ (q.lowest - code_of (record { subject = s; predicate = 0; object = 0 })) / width → Spans q.pattern.predicate n a b → (u : Triple) → OfSubject s u → Answers (bits ws) q u → (a ≤ u.predicate) × (u.predicate < b)
+    subject_in n a b en sp u r h =
         let i : Inside side u = bits_inside ws u h.0 in
         sp.every u.predicate i.1 (omega arith) h.1.1.1
 
     -- no answer before the row, and the first of the row
-    pub subject-some : (p : ℕ) (t : Triple) → ((u : Triple) → OfSubject s u → Answers (bits ws) q u → p ≤ u.predicate) → First (OfRow s p) (bits ws) q t → First (OfSubject s) (bits ws) q t
-    subject-some p t before f =
+    pub subject_some : (p : ℕ) (t : Triple) → ((u : Triple) → OfSubject s u → Answers (bits ws) q u → p ≤ u.predicate) → First (OfRow s p) (bits ws) q t → First (OfSubject s) (bits ws) q t
+    subject_some p t before f =
         let i : Inside side t = bits_inside ws t f.answers.0 in
         record {
           part = f.part.0;
@@ -56,26 +56,26 @@ module _ (ws : List ℕ) (q : Question) where
               ⊎_elim (λ e. f.first u (r, e) h) (λ ne. omega (arith, f.part)) (cases_eq u.predicate p);
         }
 
-    pub subject-more : (p : ℕ) → ((u : Triple) → OfSubject s u → Answers (bits ws) q u → p ≤ u.predicate) → FirstIn (OfRow s p) (bits ws) q None → (u : Triple) → OfSubject s u → Answers (bits ws) q u → p < u.predicate
-    subject-more p before f u r h =
+    pub subject_more : (p : ℕ) → ((u : Triple) → OfSubject s u → Answers (bits ws) q u → p ≤ u.predicate) → FirstIn (OfRow s p) (bits ws) q None → (u : Triple) → OfSubject s u → Answers (bits ws) q u → p < u.predicate
+    subject_more p before f u r h =
         let l : p ≤ u.predicate = before u r h in
         ⊎_elim (λ e. absurd (f u (r, e) h)) (λ ne. omega arith) (cases_eq u.predicate p)
 
-  pub cube-in : (n a b : ℕ) → n ≡ q.lowest / (width * width) → Spans q.pattern.subject n a b → (u : Triple) → Answers (bits ws) q u → (a ≤ u.subject) × (u.subject < b)
-  cube-in n a b en sp u h =
+  pub cube_in : (n a b : ℕ) → n ≡ q.lowest / (width * width) → Spans q.pattern.subject n a b → (u : Triple) → Answers (bits ws) q u → (a ≤ u.subject) × (u.subject < b)
+  cube_in n a b en sp u h =
       let i : Inside side u = bits_inside ws u h.0 in
       sp.every u.subject i.0 (omega arith) h.1.1.0
 
-  pub cube-more : (s : ℕ) → ((u : Triple) → Answers (bits ws) q u → s ≤ u.subject) → FirstIn (OfSubject s) (bits ws) q None → (u : Triple) → Answers (bits ws) q u → s < u.subject
-  cube-more s before f u h =
+  pub cube_more : (s : ℕ) → ((u : Triple) → Answers (bits ws) q u → s ≤ u.subject) → FirstIn (OfSubject s) (bits ws) q None → (u : Triple) → Answers (bits ws) q u → s < u.subject
+  cube_more s before f u h =
       let l : s ≤ u.subject = before u h in
       ⊎_elim (λ e. absurd (f u e h)) (λ ne. omega arith) (cases_eq u.subject s)
 
-  pub cube-none : ((u : Triple) → Answers (bits ws) q u → ⊥) → Nothing (bits ws) q
-  cube-none f u h = ⊎_elim (λ e. absurd (f u (e, h))) (λ e. e) (cases_Bool (bits ws u))
+  pub cube_none : ((u : Triple) → Answers (bits ws) q u → ⊥) → Nothing (bits ws) q
+  cube_none f u h = ⊎_elim (λ e. absurd (f u (e, h))) (λ e. e) (cases_Bool (bits ws u))
 
-  pub cube-some : (s : ℕ) (t : Triple) → ((u : Triple) → Answers (bits ws) q u → s ≤ u.subject) → First (OfSubject s) (bits ws) q t → Least (bits ws) q t
-  cube-some s t before f =
+  pub cube_some : (s : ℕ) (t : Triple) → ((u : Triple) → Answers (bits ws) q u → s ≤ u.subject) → First (OfSubject s) (bits ws) q t → Least (bits ws) q t
+  cube_some s t before f =
       let i : Inside side t = bits_inside ws t f.answers.0 in
       let least : (u : Triple) → Answers (bits ws) q u → code_of t ≤ code_of u = λ u h.
       let l : s ≤ u.subject = before u h in

@@ -44,8 +44,8 @@ module _ (ws : List ℕ) (t : Triple) (i : Inside side t) (l : rows ≤ length w
   at_row = get_or-set_same ws row (bit_or word (2 ^ t.object)) 0 (omega arith)
 
   -- the word and the bit of another triple
-  other-bit : (u : Triple) → (u ≡ t → ⊥) → Inside side u → bit_at (get_or (marking ws t) (row_of u.subject u.predicate) 0) u.object ≡ bit_at (get_or ws (row_of u.subject u.predicate) 0) u.object
-  other-bit u ne d =
+  other_bit : (u : Triple) → (u ≡ t → ⊥) → Inside side u → bit_at (get_or (marking ws t) (row_of u.subject u.predicate) 0) u.object ≡ bit_at (get_or ws (row_of u.subject u.predicate) 0) u.object
+  other_bit u ne d =
       ⊎_elim
       (λ e.
       let o : u.object ≡ t.object → ⊥ = λ h. ne (triple_eq u t (omega arith) (omega arith) h) in
@@ -61,4 +61,4 @@ module _ (ws : List ℕ) (t : Triple) (i : Inside side t) (l : rows ≤ length w
   bits-marking =
       is_adding (bits ws) (bits (marking ws t)) t
       (bits_in (marking ws t) t i ∙ ap (λ w. bit_at w t.object) at_row ∙ bit_put word t.object)
-      (λ u ne. both (in_cube u) _ _ (λ h. other-bit u ne (cube_inside u h)))
+      (λ u ne. both (in_cube u) _ _ (λ h. other_bit u ne (cube_inside u h)))

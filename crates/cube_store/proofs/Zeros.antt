@@ -49,5 +49,5 @@ module _ (w a : ℕ) where
       (λ ge. ge)
       (cases_lt k (a + count_trailing_zeros 64 (w / 2 ^ a)))
 
-  pub first-set : a + count_trailing_zeros 64 (w / 2 ^ a) < 64 → bit_at w (a + count_trailing_zeros 64 (w / 2 ^ a)) ≡ true
-  first-set l = sym (bit_shr w a _) ∙ zeros_set 64 (w / 2 ^ a) (omega arith)
+  pub first_set : a + count_trailing_zeros 64 (w / 2 ^ a) < 64 → bit_at w (a + count_trailing_zeros 64 (w / 2 ^ a)) ≡ true
+  first_set l = sym (bit_shr w a _) ∙ zeros_set 64 (w / 2 ^ a) (omega arith)

@@ -137,25 +137,25 @@ module _ (bs : List ℕ) (k : ℕ) (t : State) (st : Stands start bs k t) where
     no_part : left part (step t (get_or bs k 0)) ≡ never → Begins (line part) (take (k + 1) bs) → ⊥
     no_part d h = let n = next-part h in subst (λ e. Spells e n.0) d (step_in part t (get_or bs k 0) n.0 (λ e. not_full e) n.1)
 
-    no-full : (plain (sort t) ≡ true) ⊎ Slashed start bs k t → step t (get_or bs k 0) ≡ dead → Begins (line full) (take (k + 1) bs) → ⊥
-    no-full v d h = let n = next-full v h in subst (λ s. Spells (left full s) n.0) d (step_in full t (get_or bs k 0) n.0 (λ _. ap (λ s. lettered (sort s)) d) n.1)
+    no_full : (plain (sort t) ≡ true) ⊎ Slashed start bs k t → step t (get_or bs k 0) ≡ dead → Begins (line full) (take (k + 1) bs) → ⊥
+    no_full v d h = let n = next-full v h in subst (λ s. Spells (left full s) n.0) d (step_in full t (get_or bs k 0) n.0 (λ _. ap (λ s. lettered (sort s)) d) n.1)
 
-  goes-not : (n : ℕ) → (plain (sort t) ≡ true) ⊎ Slashed start bs k t → Halted in_line start bs k t n → k < length bs → GoesOn (line full) (line part) (take (k + 1) bs) → ⊥
-  goes-not n v (scan.high l h) m (begins x) = let z = next-part m x in omega (arith, left-low part t (get_or bs k 0) z.0 z.1)
-  goes-not n v (scan.high l h) m (slashed p e x y) = let z = next-full m v y in omega (arith, left-low full t (get_or bs k 0) z.0 z.1)
-  goes-not n v (scan.unicode l s e) m (begins x) = no_part m (letter-stops start bs k t (get_or bs k 0) s e) x
-  goes-not n v (scan.unicode l s e) m (slashed p q x y) =
+  goes_not : (n : ℕ) → (plain (sort t) ≡ true) ⊎ Slashed start bs k t → Halted in_line start bs k t n → k < length bs → GoesOn (line full) (line part) (take (k + 1) bs) → ⊥
+  goes_not n v (scan.high l h) m (begins x) = let z = next-part m x in omega (arith, left-low part t (get_or bs k 0) z.0 z.1)
+  goes_not n v (scan.high l h) m (slashed p e x y) = let z = next-full m v y in omega (arith, left-low full t (get_or bs k 0) z.0 z.1)
+  goes_not n v (scan.unicode l s e) m (begins x) = no_part m (letter-stops start bs k t (get_or bs k 0) s e) x
+  goes_not n v (scan.unicode l s e) m (slashed p q x y) =
       let z = snoc_last (take k bs) p (get_or bs k 0) 92 (sym (take_more bs k 0 l) ∙ q) in
       ⊎_elim (λ a. let b : ◌≡◌ {A = ℕ} 117 92 = sym a ∙ z in omega arith) (λ a. let b : ◌≡◌ {A = ℕ} 85 92 = sym a ∙ z in omega arith) e
-  goes-not n v (scan.other l h d) m (begins x) = no_part m (ap (left part) d) x
-  goes-not n v (scan.other l h d) m (slashed p q x y) = no-full m v d y
-  goes-not n v (scan.short e h) m g = omega arith
+  goes_not n v (scan.other l h d) m (begins x) = no_part m (ap (left part) d) x
+  goes_not n v (scan.other l h d) m (slashed p q x y) = no_full m v d y
+  goes_not n v (scan.short e h) m g = omega arith
 
-  ends-not : (n : ℕ) → Halted in_line start bs k t n → k ≡ length bs → Spells (line part) bs → ⊥
-  ends-not n (scan.high l h) e x = omega arith
-  ends-not n (scan.unicode l s u) e x = omega arith
-  ends-not n (scan.other l h d) e x = omega arith
-  ends-not n (scan.short q h) e x =
+  ends_not : (n : ℕ) → Halted in_line start bs k t n → k ≡ length bs → Spells (line part) bs → ⊥
+  ends_not n (scan.high l h) e x = omega arith
+  ends_not n (scan.unicode l s u) e x = omega arith
+  ends_not n (scan.other l h d) e x = omega arith
+  ends_not n (scan.short q h) e x =
       let w : Spells (line part) (take k bs ++ []) = subst (Spells (line part)) (sym (append-nil (take k bs) ∙ take_all k bs (omega arith))) x in
       let y = subst (λ s. Spells (left part s) []) st (run-part start (take k bs) [] w) in
       let z = if_so _ _ (every (λ s. if (in_line (sort s)) (not (nullable (left part s)))) refl refl t) h in
@@ -164,14 +164,14 @@ module _ (bs : List ℕ) (k : ℕ) (t : State) (st : Stands start bs k t) where
   reason : (n : ℕ) → (plain (sort t) ≡ true) ⊎ Slashed start bs k t → Halted in_line start bs k t n → Why (line full) bs k n
   reason n v (scan.high l h) = high l h
   reason n v (scan.unicode l s e) = unicode l e (subst (Begins (line full)) (sym (take_more bs k 0 l)) (begins-full (get_or bs k 0) s e))
-  reason n v (scan.other l h d) = other l h (no-full l v d)
+  reason n v (scan.other l h d) = other l h (no_full l v d)
   reason n v (scan.short e h) = short e
 
 -- a halt from the start is the first place where the line cannot go on
 pub stops : (bs : List ℕ) (k n : ℕ) → Halts in_line start bs k n → Stops (line full) (line part) bs k n
 stops bs k n h = record {
   before = goes bs k h.state h.stands h.live;
-  here = goes-not bs k h.state h.stands n h.live h.why;
-  end = ends-not bs k h.state h.stands n h.why;
+  here = goes_not bs k h.state h.stands n h.live h.why;
+  end = ends_not bs k h.state h.stands n h.why;
   why = reason bs k h.state h.stands n h.live h.why;
 }

@@ -8,37 +8,37 @@ use Rattle.grammar.specs.Scanner.{piece}
 use Rattle.grammar.proofs.Slices.{piece-none, piece-one, piece_join, piece-length}
 
 module _ (text : List ℕ) where
-  unbroken-from : (n a e : ℕ) → e ≡ a + n → e ≤ length text → ((k : ℕ) → a ≤ k → k < e → EndsLine (get_or text k 0) → ⊥) → Unbroken (piece text a e)
-  unbroken-from zero a e q l h = subst Unbroken (sym (piece-none text a) ∙ ap (piece text a) (let z : a ≡ e = omega arith in z)) tt
-  unbroken-from (suc n) a e q l h =
+  unbroken_from : (n a e : ℕ) → e ≡ a + n → e ≤ length text → ((k : ℕ) → a ≤ k → k < e → EndsLine (get_or text k 0) → ⊥) → Unbroken (piece text a e)
+  unbroken_from zero a e q l h = subst Unbroken (sym (piece-none text a) ∙ ap (piece text a) (let z : a ≡ e = omega arith in z)) tt
+  unbroken_from (suc n) a e q l h =
       subst Unbroken (sym (piece_join text a (a + 1) e (omega arith) (omega arith) ∙ ap (λ u. u ++ piece text (a + 1) e) (piece-one text a (omega arith))))
-      (h a (omega arith) (omega arith), unbroken-from n (a + 1) e (omega arith) l (λ k i j. h k (omega arith) j))
+      (h a (omega arith) (omega arith), unbroken_from n (a + 1) e (omega arith) l (λ k i j. h k (omega arith) j))
 
   drop-piece : (a e : ℕ) → a ≤ e → drop a text ≡ piece text a e ++ drop e text
   drop-piece a e h =
       let z : a + (e - a) ≡ e = omega arith in
       sym (take-append-drop (e - a) (drop a text)) ∙ ap (λ u. piece text a e ++ u) (drop-drop (e - a) a text ∙ ap (λ n. drop n text) z)
 
-  drop-some : (a : ℕ) → a < length text → drop a text ≡ [] → ⊥
-  drop-some a h e = let z : length (drop a text) ≡ 0 = ap length e in omega (arith, length-drop a text)
+  drop_some : (a : ℕ) → a < length text → drop a text ≡ [] → ⊥
+  drop_some a h e = let z : length (drop a text) ≡ 0 = ap length e in omega (arith, length-drop a text)
 
   -- where a document has ended, it has no line
   pub no_line : (from : ℕ) (r : Reading) (n : ℕ) → length text ≤ from → LineAt text from r n → ⊥
   no_line from r n h l = l.cut.some (drop_all from text h)
 
-  pub over-or-not : (from : ℕ) (b : Bool) → leb (length text) from ≡ b → MatchBool b ((length text ≤ from) × ((r : Reading) (n : ℕ) → LineAt text from r n → ⊥)) (from < length text)
-  over-or-not from true e = let h = leb-true (length text) from e in (h, λ r n l. no_line from r n h l)
-  over-or-not from false e = leb-false (length text) from e
+  pub over_or_not : (from : ℕ) (b : Bool) → leb (length text) from ≡ b → MatchBool b ((length text ≤ from) × ((r : Reading) (n : ℕ) → LineAt text from r n → ⊥)) (from < length text)
+  over_or_not from true e = let h = leb-true (length text) from e in (h, λ r n l. no_line from r n h l)
+  over_or_not from false e = leb-false (length text) from e
 
   module _ (from e : ℕ) (r : Reading) (some : from < length text) (forward : from ≤ e) (h : (k : ℕ) → from ≤ k → k < e → EndsLine (get_or text k 0) → ⊥) (reads : Reads from (piece text from e) r) where
-    pub line-by : e < length text → EndsLine (get_or text e 0) → LineAt text from r (e + 1)
-    line-by l c = record {
+    pub line_by : e < length text → EndsLine (get_or text e 0) → LineAt text from r (e + 1)
+    line_by l c = record {
       bs = piece text from e;
       ending = get_or text e 0 ∷ [];
       cut = record {
-        some = drop-some from some;
+        some = drop_some from some;
         split = drop-piece from e forward ∙ ap (λ u. piece text from e ++ u) (drop_more text e 0 l);
-        unbroken = unbroken-from (e - from) from e (omega arith) (omega arith) h;
+        unbroken = unbroken_from (e - from) from e (omega arith) (omega arith) h;
         ended = by (get_or text e 0) c;
       };
       next_is = omega (arith, piece-length text from e forward (omega arith));
@@ -50,9 +50,9 @@ module _ (text : List ℕ) where
       bs = piece text from e;
       ending = [];
       cut = record {
-        some = drop-some from some;
+        some = drop_some from some;
         split = drop-piece from e forward;
-        unbroken = unbroken-from (e - from) from e (omega arith) (omega arith) h;
+        unbroken = unbroken_from (e - from) from e (omega arith) (omega arith) h;
         ended = at_end (drop_all e text (omega arith));
       };
       next_is = omega (arith, piece-length text from e forward (omega arith));

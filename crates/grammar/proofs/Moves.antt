@@ -52,16 +52,16 @@ no_dot c e u = cond-false (inside blank c) _ _ e ∙ past _ _ _ _ u
 
 -- after a backslash
 module _ (s : State) (bs : List ℕ) (k : ℕ) where
-  pub slash-stuck : (n : Next) → k < length bs → get_or bs k 0 ≡ 92 → Stands s bs k (iri n) → StuckEscape s bs (k + 1)
-  slash-stuck n l e h = record {
+  pub slash_stuck : (n : Next) → k < length bs → get_or bs k 0 ≡ 92 → Stands s bs k (iri n) → StuckEscape s bs (k + 1)
+  slash_stuck n l e h = record {
     state = slash n;
     stands = by_byte s bs k 92 (iri n) (slash n) h l e refl;
     slashed = in_iri n k refl l h e;
     next = λ m u v. no_step (slash n) (get_or bs (k + 1) 0) (past _ _ _ _ u ∙ past _ _ _ _ v);
   }
 
-  pub string-stuck : Stands s bs k escape → (k < length bs → inside escape_letter (get_or bs k 0) ≡ false) → StuckEscape s bs k
-  string-stuck h e = record {
+  pub string_stuck : Stands s bs k escape → (k < length bs → inside escape_letter (get_or bs k 0) ≡ false) → StuckEscape s bs k
+  string_stuck h e = record {
     state = escape;
     stands = h;
     slashed = in_string;
@@ -104,5 +104,5 @@ module _ (s : State) (bs : List ℕ) (k : ℕ) (n : Next) (h : Ended s bs k n) w
   pub after-byte : (b : ℕ) (t : State) → k < length bs → get_or bs k 0 ≡ b → step (before n) b ≡ t → Stands s bs (k + 1) t
   after-byte b t l e m = onward s bs k h.state t h.stands l (h.next l ∙ ap (step (before n)) e ∙ m)
 
-  pub after-stuck : (k < length bs → move (before n) (get_or bs k 0) ≡ dead) → Stuck in_line s bs k
-  after-stuck d = record { state = h.state; stands = h.stands; live = inl (ap plain h.over); next = λ l. h.next l ∙ no_step (before n) (get_or bs k 0) (d l); end = λ _. ap in_line h.over }
+  pub after_stuck : (k < length bs → move (before n) (get_or bs k 0) ≡ dead) → Stuck in_line s bs k
+  after_stuck d = record { state = h.state; stands = h.stands; live = inl (ap plain h.over); next = λ l. h.next l ∙ no_step (before n) (get_or bs k 0) (d l); end = λ _. ap in_line h.over }

@@ -19,9 +19,9 @@ last_in (x ∷ p) r (y ∷ q) c e =
     ⊎_elim (λ h. inl (cc)) (λ h. inr (h.0, cc h.1)) (last_in p r q c t)
 
 module _ (whole ours : Expr) where
-  pub goes-on-shorter : (p r : List ℕ) → GoesOn whole ours (p ++ r) → GoesOn whole ours p
-  goes-on-shorter p r (begins x) = begins (begins_shorter ours p r x)
-  goes-on-shorter p r (slashed q e x y) =
+  pub goes_on_shorter : (p r : List ℕ) → GoesOn whole ours (p ++ r) → GoesOn whole ours p
+  goes_on_shorter p r (begins x) = begins (begins_shorter ours p r x)
+  goes_on_shorter p r (slashed q e x y) =
       ⊎_elim
       (λ h. slashed q h x (begins_shorter whole p r y))
       (λ h. begins (begins_shorter ours p h.0 (subst (Begins ours) h.1 x)))
@@ -34,16 +34,16 @@ module _ (whole ours : Expr) where
   within bs k n (short e) = omega arith
 
   -- a string goes on before the place where it stops
-  goes-on-before : (bs : List ℕ) (j k n : ℕ) → j ≤ k → Stops whole ours bs k n → GoesOn whole ours (take j bs)
-  goes-on-before bs j k n h s =
+  goes_on_before : (bs : List ℕ) (j k n : ℕ) → j ≤ k → Stops whole ours bs k n → GoesOn whole ours (take j bs)
+  goes_on_before bs j k n h s =
       let e : take k bs ≡ take j bs ++ drop j (take k bs) = cc (take-append-drop j (take k bs), take-take j k bs h) in
-      goes-on-shorter (take j bs) (drop j (take k bs)) (subst (GoesOn whole ours) e s.before)
+      goes_on_shorter (take j bs) (drop j (take k bs)) (subst (GoesOn whole ours) e s.before)
 
   -- and so stops at no place before it
   earlier : (bs : List ℕ) (k n l m : ℕ) → k < l → Stops whole ours bs k n → Stops whole ours bs l m → ⊥
   earlier bs k n l m h s t =
       let w = within bs l m t.why in
-      s.here (omega arith) (goes-on-before bs (k + 1) l m (omega arith) t)
+      s.here (omega arith) (goes_on_before bs (k + 1) l m (omega arith) t)
 
   same-why : (bs : List ℕ) (k n m : ℕ) → Why whole bs k n → Why whole bs k m → n ≡ m
   same-why bs k n m (high a b) (high c d) = refl

@@ -55,12 +55,12 @@ module _ (bs : List ℕ) (h : Spells (object part) bs) where
       both_ways (not (nullable (der 46 (left part t)))) (ap not (nullable_in _ ((der_is 46 (left part t) []).1 x))) z
 
   -- a text that halts inside a term is no term
-  pub not-halted : (k n : ℕ) → Halts in_term (before thing) bs k n → ⊥
-  not-halted k n x = halted k n x.state x.stands x.why
+  pub not_halted : (k n : ℕ) → Halts in_term (before thing) bs k n → ⊥
+  not_halted k n x = halted k n x.state x.stands x.why
 
   -- nor is one of which a shorter part is a term that has ended
-  pub not-longer : (k : ℕ) → Ended (before thing) bs k dot → k < length bs → Spells (object part) (take k bs) → ⊥
-  not-longer k x l s =
+  pub not_longer : (k : ℕ) → Ended (before thing) bs k dot → k < length bs → Spells (object part) (take k bs) → ⊥
+  not_longer k x l s =
       ⊎_elim
       (λ i. delimited (in_left blank (to 46 46 ∷ to 60 60 ∷ []) (get_or bs k 0) i))
       (λ i. ⊎_elim
@@ -81,13 +81,13 @@ module _ (e : Expr) (wide : (u : List ℕ) → Spells e u → Spells (object par
   pub is_all : (k : ℕ) → k ≤ length bs → Is e (piece bs 0 k) → eqb k (length bs) ≡ true → Is e bs
   is_all k l h q = subst (Is e) (ap (piece bs 0) (eqb-true k (length bs) q) ∙ piece_whole bs) h
 
-  pub not-all : (k : ℕ) → k ≤ length bs → Is e (piece bs 0 k) → Ended (before thing) bs k dot → eqb k (length bs) ≡ false → Is e bs → ⊥
-  not-all k l h x q i =
+  pub not_all : (k : ℕ) → k ≤ length bs → Is e (piece bs 0 k) → Ended (before thing) bs k dot → eqb k (length bs) ≡ false → Is e bs → ⊥
+  not_all k l h x q i =
       let n = eqb-false k (length bs) q in
-      not-longer bs (wide bs i.spelled) k x (omega arith) (wide (take k bs) (subst (λ j. Spells e (take j bs)) (let z : k - 0 ≡ k = omega arith in z) h.spelled))
+      not_longer bs (wide bs i.spelled) k x (omega arith) (wide (take k bs) (subst (λ j. Spells e (take j bs)) (let z : k - 0 ≡ k = omega arith in z) h.spelled))
 
   pub not_stuck : (k n : ℕ) → Halts in_term (before thing) bs k n → Is e bs → ⊥
-  not_stuck k n x i = not-halted bs (wide bs i.spelled) k n x
+  not_stuck k n x i = not_halted bs (wide bs i.spelled) k n x
 
 -- the first byte of a term
 pub first_is : (e : Expr) (b : ℕ) (bs : List ℕ) → firsts e [] ≡ to b b ∷ [] → nullable e ≡ false → Is e bs → (0 < length bs) × (get_or bs 0 0 ≡ b)

@@ -45,8 +45,8 @@ module _ (bs : List ℕ) where
   pub byte_at : (b k : ℕ) → k < length bs → get_or bs k 0 ≡ b → inside (to b b ∷ []) b ≡ true → Spells (one (to b b ∷ [])) (piece bs k (k + 1))
   byte_at b k h e i = (get_or bs k 0, piece-one bs k h, ap (inside (to b b ∷ [])) e ∙ i)
 
-  pub class-at : (rs : List Range) (k : ℕ) → k < length bs → inside rs (get_or bs k 0) ≡ true → Spells (one rs) (piece bs k (k + 1))
-  class-at rs k h e = (get_or bs k 0, piece-one bs k h, e)
+  pub class_at : (rs : List Range) (k : ℕ) → k < length bs → inside rs (get_or bs k 0) ≡ true → Spells (one rs) (piece bs k (k + 1))
+  class_at rs k h e = (get_or bs k 0, piece-one bs k h, e)
 
   pub join : (A B : Expr) (a b c : ℕ) → a ≤ b → b ≤ c → Spells A (piece bs a b) → Spells B (piece bs b c) → Spells (A then B) (piece bs a c)
   join A B a b c h k x y = (piece bs a b, piece bs b c, piece_join bs a b c h k, x, y)
@@ -57,23 +57,23 @@ module _ (bs : List ℕ) where
   pub none_yet : (A : Expr) (a : ℕ) → Spells (many A) (piece bs a a)
   none_yet A a = subst (Spells (many A)) (sym (piece-none bs a)) stop
 
-  run-from : (rs : List Range) (n k e : ℕ) → e ≡ k + n → e ≤ length bs → ((j : ℕ) → k ≤ j → j < e → inside rs (get_or bs j 0) ≡ true) → Spells (many (one rs)) (piece bs k e)
-  run-from rs zero k e q l i = subst (λ x. Spells (many (one rs)) (piece bs k x)) (let z : k ≡ e = omega arith in z) (none_yet (one rs) k)
-  run-from rs (suc n) k e q l i =
+  run_from : (rs : List Range) (n k e : ℕ) → e ≡ k + n → e ≤ length bs → ((j : ℕ) → k ≤ j → j < e → inside rs (get_or bs j 0) ≡ true) → Spells (many (one rs)) (piece bs k e)
+  run_from rs zero k e q l i = subst (λ x. Spells (many (one rs)) (piece bs k x)) (let z : k ≡ e = omega arith in z) (none_yet (one rs) k)
+  run_from rs (suc n) k e q l i =
       more (piece bs k (k + 1)) (piece bs (k + 1) e) (piece_join bs k (k + 1) e (omega arith) (omega arith))
-      (class-at rs k (omega arith) (i k (omega arith) (omega arith))) (run-from rs n (k + 1) e (omega arith) l (λ j a b. i j (omega arith) b))
+      (class_at rs k (omega arith) (i k (omega arith) (omega arith))) (run_from rs n (k + 1) e (omega arith) l (λ j a b. i j (omega arith) b))
 
-  pub run-spells : (rs : List Range) (k e : ℕ) → RunTo rs bs k e → Spells (many (one rs)) (piece bs k e)
-  run-spells rs k e r = run-from rs (e - k) k e (omega (arith, r.forward)) r.within r.all
+  pub run_spells : (rs : List Range) (k e : ℕ) → RunTo rs bs k e → Spells (many (one rs)) (piece bs k e)
+  run_spells rs k e r = run_from rs (e - k) k e (omega (arith, r.forward)) r.within r.all
 
   -- a run of a class as units of a wider kind
   pub run-units : (rs : List Range) (B : Expr) (a k e : ℕ) → a ≤ k → RunTo rs bs k e → Spells (many (one rs or B)) (piece bs a k) → Spells (many (one rs or B)) (piece bs a e)
   run-units rs B a k e h r x =
       subst (Spells (many (one rs or B))) (sym (piece_join bs a k e h r.forward))
-      (star_join (Spells (one rs or B)) (piece bs a k) (piece bs k e) x (star_wider (Spells (one rs)) (Spells (one rs or B)) (piece bs k e) (λ s y. inl y) (run-spells rs k e r)))
+      (star_join (Spells (one rs or B)) (piece bs a k) (piece bs k e) x (star_wider (Spells (one rs)) (Spells (one rs or B)) (piece bs k e) (λ s y. inl y) (run_spells rs k e r)))
 
   -- at least one byte of a class
-  pub run-some : (rs : List Range) (k e : ℕ) → RunTo rs bs k e → k < e → Spells (one rs then many (one rs)) (piece bs k e)
-  run-some rs k e r l =
-      join (one rs) (many (one rs)) k (k + 1) e (omega arith) (omega arith) (class-at rs k (omega (arith, r.within)) (r.all k (omega arith) l))
-      (run-from rs (e - (k + 1)) (k + 1) e (omega arith) r.within (λ j a b. r.all j (omega arith) b))
+  pub run_some : (rs : List Range) (k e : ℕ) → RunTo rs bs k e → k < e → Spells (one rs then many (one rs)) (piece bs k e)
+  run_some rs k e r l =
+      join (one rs) (many (one rs)) k (k + 1) e (omega arith) (omega arith) (class_at rs k (omega (arith, r.within)) (r.all k (omega arith) l))
+      (run_from rs (e - (k + 1)) (k + 1) e (omega arith) r.within (λ j a b. r.all j (omega arith) b))

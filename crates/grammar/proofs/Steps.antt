@@ -100,14 +100,14 @@ module _ (f : Sort → Bool) (s : State) (bs : List ℕ) (k : ℕ) where
   pub stuck_at : (t : State) → Stands s bs k t → plain (sort t) ≡ true → (k < length bs → move t (get_or bs k 0) ≡ dead) → (k ≡ length bs → f (sort t) ≡ true) → Stuck f s bs k
   stuck_at t h p d e = record { state = t; stands = h; live = inl p; next = λ l. no_step t (get_or bs k 0) (d l); end = e }
 
-  pub halt-short : Stuck f s bs k → k ≡ length bs → Halts f s bs k 3
-  halt-short h e = record { state = h.state; stands = h.stands; live = h.live; why = scan.short e (h.end e) }
+  pub halt_short : Stuck f s bs k → k ≡ length bs → Halts f s bs k 3
+  halt_short h e = record { state = h.state; stands = h.stands; live = h.live; why = scan.short e (h.end e) }
 
-  pub halt-high : Stuck f s bs k → k < length bs → 128 ≤ get_or bs k 0 → Halts f s bs k 1
-  halt-high h l c = record { state = h.state; stands = h.stands; live = h.live; why = scan.high l c }
+  pub halt_high : Stuck f s bs k → k < length bs → 128 ≤ get_or bs k 0 → Halts f s bs k 1
+  halt_high h l c = record { state = h.state; stands = h.stands; live = h.live; why = scan.high l c }
 
-  pub halt-other : Stuck f s bs k → k < length bs → get_or bs k 0 < 128 → Halts f s bs k 3
-  halt-other h l c = record { state = h.state; stands = h.stands; live = h.live; why = scan.other l c (h.next l) }
+  pub halt_other : Stuck f s bs k → k < length bs → get_or bs k 0 < 128 → Halts f s bs k 3
+  halt_other h l c = record { state = h.state; stands = h.stands; live = h.live; why = scan.other l c (h.next l) }
 
 is_letter : (c : ℕ) → inside uchar_letter c ≡ true → (c ≡ 117) ⊎ (c ≡ 85)
 is_letter c i =
@@ -120,11 +120,11 @@ is_letter c i =
     (or_cases (leb 85 c && leb c 85) _ i)
 
 module _ (s : State) (bs : List ℕ) (k : ℕ) (h : StuckEscape s bs k) where
-  pub halt-letter : k < length bs → inside uchar_letter (get_or bs k 0) ≡ true → Halts in_term s bs k 2
-  halt-letter l i = record { state = h.state; stands = h.stands; live = inr h.slashed; why = scan.unicode l h.slashed (is_letter (get_or bs k 0) i) }
+  pub halt_letter : k < length bs → inside uchar_letter (get_or bs k 0) ≡ true → Halts in_term s bs k 2
+  halt_letter l i = record { state = h.state; stands = h.stands; live = inr h.slashed; why = scan.unicode l h.slashed (is_letter (get_or bs k 0) i) }
 
-  pub escape-stuck : (k < length bs → inside uchar_letter (get_or bs k 0) ≡ false) → Stuck in_term s bs k
-  escape-stuck n = record {
+  pub escape_stuck : (k < length bs → inside uchar_letter (get_or bs k 0) ≡ false) → Stuck in_term s bs k
+  escape_stuck n = record {
     state = h.state;
     stands = h.stands;
     live = inr h.slashed;

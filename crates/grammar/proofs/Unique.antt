@@ -32,18 +32,18 @@ module _ {base : ℕ} {bs : List ℕ} {at : ℕ} {s p o : Term} (h : Holds base 
   parts_are =
       (h.is_subject.allowed, (h.blanks.1, (h.is_predicate.allowed, (h.blanks.2, (h.is_object.allowed, (h.blanks.3, ((46, refl, refl), (h.ends, tt))))))))
 
-  split-is : bs ≡ h.w₁ ++ flat parts-after
-  split-is = simp append-nil h.split
+  split_is : bs ≡ h.w₁ ++ flat parts-after
+  split_is = simp append-nil h.split
 
-  triple-spells : Spells (WS then thens after-blanks) bs
-  triple-spells = (h.w₁, flat parts-after, split-is, h.blanks.0, pieces_spell after-blanks parts-after parts_are)
+  triple_spells : Spells (WS then thens after-blanks) bs
+  triple_spells = (h.w₁, flat parts-after, split_is, h.blanks.0, pieces_spell after-blanks parts-after parts_are)
 
 module _ (base : ℕ) (bs : List ℕ) where
   same-triple : (at at' : ℕ) (s p o s' p' o' : Term) → Holds base bs at s p o → Holds base bs at' s' p' o' → a_triple at s p o ≡ a_triple at' s' p' o'
   same-triple at at' s p o s' p' o' h k =
       let e =
       same_pieces (WS ∷ after-blanks) (h.w₁ ∷ parts-after h) (k.w₁ ∷ parts-after k) refl
-      (h.blanks.0, parts_are h) (k.blanks.0, parts_are k) (sym (split-is h) ∙ split-is k) in
+      (h.blanks.0, parts_are h) (k.blanks.0, parts_are k) (sym (split_is h) ∙ split_is k) in
       let x = same_term _ _ s s' h.is_subject k.is_subject (cc) (cc) in
       let y = same_term _ _ p p' h.is_predicate k.is_predicate (cc) (cc) in
       let z = same_term _ _ o o' h.is_object k.is_object (cc) (cc) in
@@ -52,34 +52,34 @@ module _ (base : ℕ) (bs : List ℕ) where
   blanks-only : Spells WS bs → Spells (WS then empty) bs
   blanks-only h = (bs, [], sym (append-nil bs), h, refl)
 
-  not-comment : (at : ℕ) (s p o : Term) → Holds base bs at s p o → Spells (WS then comment) bs → ⊥
-  not-comment at s p o h k = not_both-after WS (thens after-blanks) comment bs refl refl refl (triple-spells h) k
+  not_comment : (at : ℕ) (s p o : Term) → Holds base bs at s p o → Spells (WS then comment) bs → ⊥
+  not_comment at s p o h k = not_both-after WS (thens after-blanks) comment bs refl refl refl (triple_spells h) k
 
-  not-nothing : (at : ℕ) (s p o : Term) → Holds base bs at s p o → Spells WS bs → ⊥
-  not-nothing at s p o h k = not_both-after WS (thens after-blanks) empty bs refl refl refl (triple-spells h) (blanks-only k)
+  not_nothing : (at : ℕ) (s p o : Term) → Holds base bs at s p o → Spells WS bs → ⊥
+  not_nothing at s p o h k = not_both-after WS (thens after-blanks) empty bs refl refl refl (triple_spells h) (blanks-only k)
 
-  comment-or-nothing : Spells (WS then comment) bs → Spells WS bs → ⊥
-  comment-or-nothing h k = not_both-after WS comment empty bs refl refl refl h (blanks-only k)
+  comment_or_nothing : Spells (WS then comment) bs → Spells WS bs → ⊥
+  comment_or_nothing h k = not_both-after WS comment empty bs refl refl refl h (blanks-only k)
 
-  no-fault : (n k : ℕ) → Spells (line part) bs → Reads base bs (a_fault n k) → ⊥
-  no-fault n k l f = served (line full) (line part) bs f.0 n l f.2
+  no_fault : (n k : ℕ) → Spells (line part) bs → Reads base bs (a_fault n k) → ⊥
+  no_fault n k l f = served (line full) (line part) bs f.0 n l f.2
 
   pub one-reading : (r t : Reading) → Reads base bs r → Reads base bs t → r ≡ t
   one-reading (a_triple at s p o) (a_triple at' s' p' o') h k = same-triple at at' s p o s' p' o' h.1 k.1
-  one-reading (a_triple at s p o) a_comment h k = absurd (not-comment at s p o h.1 k.1)
-  one-reading (a_triple at s p o) nothing h k = absurd (not-nothing at s p o h.1 k.1)
-  one-reading (a_triple at s p o) (a_fault n i) h k = absurd (no-fault n i h.0 k)
-  one-reading a_comment (a_triple at s p o) h k = absurd (not-comment at s p o k.1 h.1)
+  one-reading (a_triple at s p o) a_comment h k = absurd (not_comment at s p o h.1 k.1)
+  one-reading (a_triple at s p o) nothing h k = absurd (not_nothing at s p o h.1 k.1)
+  one-reading (a_triple at s p o) (a_fault n i) h k = absurd (no_fault n i h.0 k)
+  one-reading a_comment (a_triple at s p o) h k = absurd (not_comment at s p o k.1 h.1)
   one-reading a_comment a_comment h k = refl
-  one-reading a_comment nothing h k = absurd (comment-or-nothing h.1 k.1)
-  one-reading a_comment (a_fault n i) h k = absurd (no-fault n i h.0 k)
-  one-reading nothing (a_triple at s p o) h k = absurd (not-nothing at s p o k.1 h.1)
-  one-reading nothing a_comment h k = absurd (comment-or-nothing k.1 h.1)
+  one-reading a_comment nothing h k = absurd (comment_or_nothing h.1 k.1)
+  one-reading a_comment (a_fault n i) h k = absurd (no_fault n i h.0 k)
+  one-reading nothing (a_triple at s p o) h k = absurd (not_nothing at s p o k.1 h.1)
+  one-reading nothing a_comment h k = absurd (comment_or_nothing k.1 h.1)
   one-reading nothing nothing h k = refl
-  one-reading nothing (a_fault n i) h k = absurd (no-fault n i h.0 k)
-  one-reading (a_fault n i) (a_triple at s p o) h k = absurd (no-fault n i k.0 h)
-  one-reading (a_fault n i) a_comment h k = absurd (no-fault n i k.0 h)
-  one-reading (a_fault n i) nothing h k = absurd (no-fault n i k.0 h)
+  one-reading nothing (a_fault n i) h k = absurd (no_fault n i h.0 k)
+  one-reading (a_fault n i) (a_triple at s p o) h k = absurd (no_fault n i k.0 h)
+  one-reading (a_fault n i) a_comment h k = absurd (no_fault n i k.0 h)
+  one-reading (a_fault n i) nothing h k = absurd (no_fault n i k.0 h)
   one-reading (a_fault n i) (a_fault m j) h k =
       let c = one-stop (line full) (line part) bs h.0 n k.0 m h.2 k.2 in
       cc (h.1, k.1)

@@ -60,9 +60,9 @@ split-line bs a b c d e f g i j k l m n o q =
 module _ (base : ℕ) (bs : List ℕ) (a b c d e f g : ℕ) (s p o : Term)
     (i : a ≤ b) (j : b ≤ c) (k : c ≤ d) (l : d ≤ e) (m : e ≤ f) (n : f ≤ g) (within : g < length bs) (dot : get_or bs g 0 ≡ 46)
     (x : s.text ≡ piece bs a b) (y : p.text ≡ piece bs c d) (z : o.text ≡ piece bs e f) where
-  pub build-holds : Is WS (piece bs 0 a) → Is WS (piece bs b c) → Is WS (piece bs d e) → Is WS (piece bs f g) → Fits (subject part) s → Fits (predicate part) p → Fits (object part) o
+  pub build_holds : Is WS (piece bs 0 a) → Is WS (piece bs b c) → Is WS (piece bs d e) → Is WS (piece bs f g) → Fits (subject part) s → Fits (predicate part) p → Fits (object part) o
       → Is rest (piece bs (g + 1) (length bs)) → s.offset ≡ base + a → p.offset ≡ base + c → o.offset ≡ base + e → Holds base bs (base + a) s p o
-  build-holds u v w t fs fp fo r so po oo =
+  build_holds u v w t fs fp fo r so po oo =
       let la = piece-length bs 0 a (omega arith) (omega arith) in
       let ls : length s.text ≡ length (piece bs a b) = ap length x in
       let lb = piece-length bs a b i (omega arith) in

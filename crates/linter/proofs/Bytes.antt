@@ -55,12 +55,12 @@ module _ (text : List ℕ) (pos : ℕ) (r : Reading) (next : ℕ) (l : LineAt te
   at_byte : (i j : ℕ) → pos + i ≡ j → get_or (l.bs ++ (l.ending ++ drop next text)) i 0 ≡ get_or text j 0
   at_byte i j e = ap (λ u. get_or u i 0) (sym l.cut.split) ∙ get_or-drop pos text i 0 ∙ ap (λ k. get_or text k 0) e
 
-  pub bare-is : bare_lf (row_of pos r l.bs l.ending) ≡ eqb (get_or text pos 0) 10
-  bare-is =
+  pub bare_is : bare_lf (row_of pos r l.bs l.ending) ≡ eqb (get_or text pos 0) 10
+  bare_is =
       first_byte pos r l.bs l.ending (drop next text) (λ e. l.cut.some (l.cut.split ∙ e)) l.cut.unbroken l.cut.ended
       ∙ ap (λ c. eqb c 10) (at_byte 0 pos (omega arith))
 
-  pub cr-is : ends_in 13 (row_of pos r l.bs l.ending) ≡ eqb (get_or text (next - 1) 0) 13
-  cr-is =
+  pub cr_is : ends_in 13 (row_of pos r l.bs l.ending) ≡ eqb (get_or text (next - 1) 0) 13
+  cr_is =
       last_byte pos r l.bs l.ending (drop next text) (λ e. l.cut.some (l.cut.split ∙ e)) l.cut.unbroken l.cut.ended
       ∙ ap (λ c. eqb c 13) (at_byte (long - 1) (next - 1) (omega (arith, l.next_is, some_bytes)))

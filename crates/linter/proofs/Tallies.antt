@@ -46,8 +46,8 @@ module _ (vs : List Verdict) (s : Survey) (h : Tells vs s) where
             ∙ ap (λ u. u ++ refusal (s.lines + 1) (verdict v)) h.found_are ∙ ap (λ n. refusals 1 vs ++ refusal n (verdict v)) z ∙ sym (refusals-more 1 vs (verdict v));
       }
 
-  pub tells-room : length vs + 1 < 2 ^ 64 → Room s
-  tells-room few = record {
+  pub tells_room : length vs + 1 < 2 ^ 64 → Room s
+  tells_room few = record {
     of_lines = omega (arith, h.all);
     of_triples = omega (arith, h.all, h.with_triple, count_most is_a_triple vs);
     of_comments = omega (arith, h.all, h.with_comment, count_most is_a_comment vs);

@@ -1,7 +1,7 @@
 -- What the linter's answers stand for, and what a survey tells. Assumes nothing.
 use Rattle.std.specs.Prelude.{◌≡◌, ℕ, List, map, length, vec_items}
-use Rattle.ntriples.specs.Answers.{number as fault-number}
-use Rattle.spelling.specs.Answers.{number as long-number}
+use Rattle.ntriples.specs.Answers.{number as fault_number}
+use Rattle.spelling.specs.Answers.{number as long_number}
 use Rattle.linter.specs.declared.verdict.Refusal.{Refusal}
 use Rattle.linter.specs.declared.verdict.Refusal.TheVariants.{Fault, TooLong}
 use Rattle.linter.specs.declared.verdict.Verdict.{Verdict as Answer}
@@ -12,8 +12,8 @@ use Rattle.linter.specs.Verdicts.{Verdict, is_triple, is_comment, is_empty, refu
 
 -- the refusal number
 abbrev pub refusal_number : Refusal → ℕ
-refusal_number (Fault k) = fault-number k
-refusal_number (TooLong t) = long-number t
+refusal_number (Fault k) = fault_number k
+refusal_number (TooLong t) = long_number t
 
 -- the verdict that an answer stands for
 abbrev pub verdict : Answer → Verdict

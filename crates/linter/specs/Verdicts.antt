@@ -39,8 +39,8 @@ bare_lf row = elim row.text [ [] ↦ ends_in 10 row | d ∷ ds ↦ false ]
 
 -- the lines as editors count them: the LF of CR LF is no line of its own
 abbrev pub shown : Bool → List Row → List Row
-shown after-cr [] = []
-shown after-cr (row ∷ rows) = cond (after-cr && bare_lf row) (shown false rows) (row ∷ shown (ends_in 13 row) rows)
+shown after_cr [] = []
+shown after_cr (row ∷ rows) = cond (after_cr && bare_lf row) (shown false rows) (row ∷ shown (ends_in 13 row) rows)
 
 -- the verdicts on lines, one by one
 pub data Verdicts : List Row → List Verdict → Type 0 where

@@ -1,7 +1,7 @@
 // One line, without its end, as the grammar reads it.
 ghost use Rattle.std.specs.Prelude.{◌≡◌, ℕ, ◌+◌, ◌-◌, ◌^◌, ◌<◌, ◌≤◌, false, length, IfErr, MatchResult, ◌≢◌, slice_index};
 ghost use Rattle.grammar.specs.Regular.{inside, Spells, Is};
-ghost use Rattle.grammar.specs.Productions.{full, part, blank, subject, predicate, object, comment, rest, line as whole-line};
+ghost use Rattle.grammar.specs.Productions.{full, part, blank, subject, predicate, object, comment, rest, line as whole_line};
 ghost use Rattle.grammar.specs.Places.{Stops};
 ghost use Rattle.grammar.specs.Readings.{Fits, Holds, Reads};
 ghost use Rattle.grammar.specs.Scanner.{verb, thing, dot, State, start, ended, remark, in_line, Stands, Halts, Ended, piece, RunTo};

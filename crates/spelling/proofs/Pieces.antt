@@ -14,41 +14,41 @@ slash_splits c t w (as_escape {l} x) = (l, refl, x)
 
 -- what stands at i of the text
 module _ (text : List ℕ) (i : ℕ) (h : i < length text) where
-  pub splits-plain : (get_or text i 0 ≡ 92 → ⊥) → Splits (drop i text) (get_or text i 0) (drop (i + 1) text)
-  splits-plain n = subst (λ l. Splits l (get_or text i 0) (drop (i + 1) text)) (sym (drop_more text i 0 h)) (as_is n)
+  pub splits_plain : (get_or text i 0 ≡ 92 → ⊥) → Splits (drop i text) (get_or text i 0) (drop (i + 1) text)
+  splits_plain n = subst (λ l. Splits l (get_or text i 0) (drop (i + 1) text)) (sym (drop_more text i 0 h)) (as_is n)
 
   module _ (e : get_or text i 0 ≡ 92) where
-    slash-first : drop i text ≡ 92 ∷ drop (i + 1) text
-    slash-first = drop_more text i 0 h ∙ ap (λ b. b ∷ drop (i + 1) text) e
+    slash_first : drop i text ≡ 92 ∷ drop (i + 1) text
+    slash_first = drop_more text i 0 h ∙ ap (λ b. b ∷ drop (i + 1) text) e
 
-    pub no-split-end : i + 1 ≡ length text → (c : ℕ) (w : List ℕ) → Splits (drop i text) c w → ⊥
-    no-split-end q c w s =
-        let (l, f, _) = slash_splits c _ w (subst (λ t. Splits t c w) slash-first s) in
+    pub no_split_end : i + 1 ≡ length text → (c : ℕ) (w : List ℕ) → Splits (drop i text) c w → ⊥
+    no_split_end q c w s =
+        let (l, f, _) = slash_splits c _ w (subst (λ t. Splits t c w) slash_first s) in
         let z : ◌≡◌ {A = ℕ} 0 (length (l ∷ w)) = ap length (sym (drop_all (i + 1) text (omega arith)) ∙ f) in
         omega arith
 
     module _ (k : i + 1 < length text) where
-      two-first : drop i text ≡ 92 ∷ get_or text (i + 1) 0 ∷ drop (i + 2) text
-      two-first =
+      two_first : drop i text ≡ 92 ∷ get_or text (i + 1) 0 ∷ drop (i + 2) text
+      two_first =
           let two : i + 1 + 1 ≡ i + 2 = omega arith in
-          slash-first ∙ ap (λ t. 92 ∷ t) (drop_more text (i + 1) 0 k ∙ ap (λ m. get_or text (i + 1) 0 ∷ drop m text) two)
+          slash_first ∙ ap (λ t. 92 ∷ t) (drop_more text (i + 1) 0 k ∙ ap (λ m. get_or text (i + 1) 0 ∷ drop m text) two)
 
-      pub splits-escape : (c : ℕ) → Escape (get_or text (i + 1) 0) c → Splits (drop i text) c (drop (i + 2) text)
-      splits-escape c x = subst (λ t. Splits t c (drop (i + 2) text)) (sym two-first) (as_escape x)
+      pub splits_escape : (c : ℕ) → Escape (get_or text (i + 1) 0) c → Splits (drop i text) c (drop (i + 2) text)
+      splits_escape c x = subst (λ t. Splits t c (drop (i + 2) text)) (sym two_first) (as_escape x)
 
-      pub no-split-letter : ((c : ℕ) → Escape (get_or text (i + 1) 0) c → ⊥) → (c : ℕ) (w : List ℕ) → Splits (drop i text) c w → ⊥
-      no-split-letter n c w s =
-          let (l, f, x) = slash_splits c _ w (subst (λ t. Splits t c w) two-first s) in
+      pub no_split_letter : ((c : ℕ) → Escape (get_or text (i + 1) 0) c → ⊥) → (c : ℕ) (w : List ℕ) → Splits (drop i text) c w → ⊥
+      no_split_letter n c w s =
+          let (l, f, x) = slash_splits c _ w (subst (λ t. Splits t c w) two_first s) in
           let same : l ≡ get_or text (i + 1) 0 = cc in
           n c (subst (λ m. Escape m c) same x)
 
 -- a body, a quote and r stand in w, where w does not begin with the quote
 module _ (w r : List ℕ) (n : (s : List ℕ) → w ≡ 34 ∷ s → ⊥) where
-  pub body-splits : (u v : List ℕ) → Body u v → w ≡ u ++ 34 ∷ r → (c : ℕ) × (t : List ℕ) × Splits w c t
-  body-splits u v ended e = absurd (n r e)
-  body-splits u v (char {c} {u = u₁} h b) e =
+  pub body_splits : (u v : List ℕ) → Body u v → w ≡ u ++ 34 ∷ r → (c : ℕ) × (t : List ℕ) × Splits w c t
+  body_splits u v ended e = absurd (n r e)
+  body_splits u v (char {c} {u = u₁} h b) e =
       (c, u₁ ++ 34 ∷ r, subst (λ l. Splits l c (u₁ ++ 34 ∷ r)) (sym e) (as_is (apart string_char c 92 h refl)))
-  body-splits u v (coded {c} {u = u₁} x b) e = (c, u₁ ++ 34 ∷ r, subst (λ l. Splits l c (u₁ ++ 34 ∷ r)) (sym e) (as_escape x))
+  body_splits u v (coded {c} {u = u₁} x b) e = (c, u₁ ++ 34 ∷ r, subst (λ l. Splits l c (u₁ ++ 34 ∷ r)) (sym e) (as_escape x))
 
 -- after c, the first byte of the lexical form v, the body goes on with t, up to a quote and r
 pub record Next (t r v : List ℕ) (c : ℕ) : Type 0 where

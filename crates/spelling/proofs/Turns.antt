@@ -7,7 +7,7 @@ use Rattle.spelling.specs.Names.{Name, Denotes, canonical, escaped_byte, escaped
 use Rattle.spelling.specs.Writing.{Splits, with_word}
 use Rattle.spelling.proofs.Bodies.{Body, ended, body-one}
 use Rattle.spelling.proofs.Literals.{opened, canonical_is}
-use Rattle.spelling.proofs.Pieces.{Next, body-splits, body-step}
+use Rattle.spelling.proofs.Pieces.{Next, body_splits, body-step}
 use Rattle.spelling.proofs.Words.{word-front, word-rest, later}
 
 -- the text is read up to i, and the spelling of n written up to j; before is the buffer as it was
@@ -45,7 +45,7 @@ module _ (text before out : List ℕ) (i j : ℕ) (n : Name) (l : Halfway text b
 
     pub some-piece : ((c : ℕ) (w : List ℕ) → Splits (drop i text) c w → ⊥) → ⊥
     some-piece never =
-        let (c, t, s) = body-splits (drop i text) l.tail unclosed l.raw l.lexical l.body l.split in
+        let (c, t, s) = body_splits (drop i text) l.tail unclosed l.raw l.lexical l.body l.split in
         never c t s
 
     module _ (c k : ℕ) (s : Splits (drop i text) c (drop k text)) (fit : j ≤ length out) where

@@ -9,6 +9,6 @@ use Rattle.triples.proofs.Graphs.{adding_had}
 
 module _ (n m : ℕ) (f : Graph) (t : Triple) (g : Graph) where
   -- an add that is not refused makes the set the one with the triple in it
-  pub adds-puts : (a : Added) → Adds n m f t g (Ok a) → g ≡ adding f t
-  adds-puts New h = h.3
-  adds-puts Had h = h.2 ∙ sym (adding_had f t h.1)
+  pub adds_puts : (a : Added) → Adds n m f t g (Ok a) → g ≡ adding f t
+  adds_puts New h = h.3
+  adds_puts Had h = h.2 ∙ sym (adding_had f t h.1)

@@ -59,44 +59,44 @@ module _ {f g : Graph} {p : Pattern} (w : Walk f p g) where
     current (Some t) h = (chosen t).1 (h.held, h.asked.1)
 
     -- nothing is passed from the lowest code on
-    passed-not : (c : Option Triple) → Next f (record { lowest = k; pattern = p }) c → (u : Triple) → g u ≡ true → k ≤ code_of u → passed c g u ≡ false
-    passed-not None h u i l = absurd (both_ways (f u) (h u (l, ((chosen u).0 i).1)) ((chosen u).0 i).0)
-    passed-not (Some t) h u i l =
+    passed_not : (c : Option Triple) → Next f (record { lowest = k; pattern = p }) c → (u : Triple) → g u ≡ true → k ≤ code_of u → passed c g u ≡ false
+    passed_not None h u i l = absurd (both_ways (f u) (h u (l, ((chosen u).0 i).1)) ((chosen u).0 i).0)
+    passed_not (Some t) h u i l =
         ⊎_elim
         (λ lt. absurd (both_ways (f u) (h.least u (l, ((chosen u).0 i).1) lt) ((chosen u).0 i).0))
         (λ ge. and_left (ltb (code_of u) (code_of t)) (g u) (le-ltb (code_of u) (code_of t) ge))
         (cases_lt (code_of u) (code_of t))
 
     -- and all before it is
-    passed-in : (c : Option Triple) → Next f (record { lowest = k; pattern = p }) c → (u : Triple) → g u ≡ true → code_of u < k → passed c g u ≡ true
-    passed-in None h u i l = i
-    passed-in (Some t) h u i l = and_from (ltb (code_of u) (code_of t)) (g u) (lt-ltb (code_of u) (code_of t) (omega (arith, h.asked.0))) i
+    passed_in : (c : Option Triple) → Next f (record { lowest = k; pattern = p }) c → (u : Triple) → g u ≡ true → code_of u < k → passed c g u ≡ true
+    passed_in None h u i l = i
+    passed_in (Some t) h u i l = and_from (ltb (code_of u) (code_of t)) (g u) (lt-ltb (code_of u) (code_of t) (omega (arith, h.asked.0))) i
 
   pub starts-current : (c : Option Triple) → Next f (from_start p) c → Current g c
   starts-current = current 0
 
   pub starts_none : (c : Option Triple) → Next f (from_start p) c → passed c g ≡ empty
   starts_none c h =
-      fun_ext (λ u. ⊎_elim (λ i. passed-not 0 c h u i (omega arith)) (λ i. passed-out c u i) (cases_Bool (g u)))
+      fun_ext (λ u. ⊎_elim (λ i. passed_not 0 c h u i (omega arith)) (λ i. passed-out c u i) (cases_Bool (g u)))
 
   module _ (t : Triple) (here : g t ≡ true) (c : Option Triple) (next : Next f (past t p) c) where
-    pub steps-current : Current g c
-    steps-current = current (code_of t + 1) c next
+    pub steps_current : Current g c
+    steps_current = current (code_of t + 1) c next
 
     beyond : (u : Triple) → (u ≡ t → ⊥) → g u ≡ true → passed c g u ≡ below (code_of t) g u
     beyond u ne i =
         ⊎_elim
         (λ e. absurd (ne (code_only u t (chosen-inside u i) (chosen-inside t here) e)))
         (⊎_elim
-        (λ lt. passed-in (code_of t + 1) c next u i (omega arith) ∙ sym (and_from _ _ (lt-ltb (code_of u) (code_of t) lt) i))
-        (λ gt. passed-not (code_of t + 1) c next u i (omega arith) ∙ sym (and_left _ (g u) (le-ltb (code_of u) (code_of t) (omega arith)))))
+        (λ lt. passed_in (code_of t + 1) c next u i (omega arith) ∙ sym (and_from _ _ (lt-ltb (code_of u) (code_of t) lt) i))
+        (λ gt. passed_not (code_of t + 1) c next u i (omega arith) ∙ sym (and_left _ (g u) (le-ltb (code_of u) (code_of t) (omega arith)))))
         (cases_order (code_of u) (code_of t))
 
     -- a step passes the candidate, and nothing else
-    pub steps-one : passed c g ≡ adding (below (code_of t) g) t
-    steps-one =
-        is_adding (below (code_of t) g) (passed c g) t (passed-in (code_of t + 1) c next t here (omega arith))
+    pub steps_one : passed c g ≡ adding (below (code_of t) g) t
+    steps_one =
+        is_adding (below (code_of t) g) (passed c g) t (passed_in (code_of t + 1) c next t here (omega arith))
         (λ u ne. ⊎_elim (beyond u ne) (λ i. passed-out c u i ∙ sym (and_right (ltb (code_of u) (code_of t)) (g u) i)) (cases_Bool (g u)))
 
-    pub steps-size : size (passed c g) ≡ size (below (code_of t) g) + 1
-    steps-size = ap size steps-one ∙ size-adding (below (code_of t) g) t (chosen-inside t here) (below_self g t)
+    pub steps_size : size (passed c g) ≡ size (below (code_of t) g) + 1
+    steps_size = ap size steps_one ∙ size-adding (below (code_of t) g) t (chosen-inside t here) (below_self g t)

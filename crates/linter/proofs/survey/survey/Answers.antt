@@ -1,6 +1,6 @@
 use Rattle.std.proofs.Common.{arith}
 use Rattle.linter.proofs.Bytes.{lengths}
-use Rattle.linter.proofs.Tallies.{tells-room}
+use Rattle.linter.proofs.Tallies.{tells_room}
 use Rattle.linter.proofs.Walks.{passed, counted, exists, only}
 use Rattle.linter.proofs.survey.survey.Goals as goal
 use Rattle.linter.proofs.survey.survey.Goals.{then-not-is_half_of_pair+in_ok-add, else-not-is_half_of_pair}
@@ -8,7 +8,7 @@ use Rattle.linter.proofs.survey.survey.Goals.{then-not-is_half_of_pair+in_ok-add
 pub add-requires : goal.add-requires
 add-requires c =
     let w = c.loop-line.invariant in
-    tells-room w.seen c.loop-line.survey w.tells (omega (arith, w.few, lengths _ _ _ _ c.in-Some.ensures.reads))
+    tells_room w.seen c.loop-line.survey w.tells (omega (arith, w.few, lengths _ _ _ _ c.in-Some.ensures.reads))
 
 pub overflow_sub-after_cr : goal.overflow_sub-after_cr
 overflow_sub-after_cr c = omega (arith, lengths _ _ _ _ c.in-Some.ensures.reads)

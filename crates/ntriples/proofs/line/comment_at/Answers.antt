@@ -4,7 +4,7 @@ use Rattle.grammar.specs.Productions.{comment_char, comment}
 use Rattle.grammar.specs.Scanner.{remark, in_line, piece}
 use Rattle.grammar.proofs.Steps.{stuck_at, run-stays, loops_remark}
 use Rattle.grammar.proofs.Moves.{no_remark}
-use Rattle.grammar.proofs.Builds.{build-comment}
+use Rattle.grammar.proofs.Builds.{build_comment}
 use Rattle.ntriples.proofs.line.comment_at.Goals as goal
 
 pub returns-then-end-line : goal.returns-then-end-line
@@ -24,6 +24,6 @@ returns c =
     let run = c.run_end-end.ensures in
     let whole : c.run_end-end.result ≡ length bs = omega (arith, run.within) in
     record {
-      found = subst (λ x. Is comment (piece bs c.args.from x)) whole (build-comment bs c.args.from c.requires.here.0 c.run_end-end.result c.requires.here.1 run);
+      found = subst (λ x. Is comment (piece bs c.args.from x)) whole (build_comment bs c.args.from c.requires.here.0 c.run_end-end.result c.requires.here.1 run);
       goes = λ s h. tt;
     }

@@ -2,7 +2,7 @@ use Rattle.std.proofs.Common.{get_or, refl, inl, inr, arith}
 use Rattle.std.proofs.lemmas.Result.{err_from_is_err_and}
 use Rattle.grammar.specs.Scanner.{thing, dot, last, iri, under, string, in_line}
 use Rattle.grammar.proofs.Steps.{wider, before-ended}
-use Rattle.grammar.proofs.Moves.{no_thing, after-byte, after-stuck}
+use Rattle.grammar.proofs.Moves.{no_thing, after-byte, after_stuck}
 use Rattle.ntriples.proofs.line.object_at.Goals as goal
 
 pub returns-then-from-line : goal.returns-then-from-line
@@ -10,7 +10,7 @@ returns-then-from-line c =
     let bs = c.args.line.now in
     record {
       found = omega (arith, c.stuck.ensures.place, c.requires.here.0);
-      goes = λ s h. c.stuck.ensures.halts in_line s (after-stuck s bs c.args.from thing h (λ l. absurd (omega arith)));
+      goes = λ s h. c.stuck.ensures.halts in_line s (after_stuck s bs c.args.from thing h (λ l. absurd (omega arith)));
     }
 
 pub returns-in_err-end : goal.returns-in_err-end
@@ -66,6 +66,6 @@ returns c =
     let bs = c.args.line.now in
     record {
       found = omega (arith, c.stuck-2.ensures.place, c.requires.here.0);
-      goes = λ s h. c.stuck-2.ensures.halts in_line s (after-stuck s bs c.args.from thing h
+      goes = λ s h. c.stuck-2.ensures.halts in_line s (after_stuck s bs c.args.from thing h
           (λ l. no_thing (get_or bs c.args.from 0) (c.requires.here.1 l) c.if-line-from-eq60.false c.if-line-from-eq95.false c.if-line-from-eq34.false));
     }

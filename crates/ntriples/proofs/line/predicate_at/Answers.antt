@@ -2,7 +2,7 @@ use Rattle.std.proofs.Common.{refl}
 use Rattle.std.proofs.lemmas.Result.{err_from_is_err_and}
 use Rattle.grammar.specs.Scanner.{verb, thing, iri, in_line}
 use Rattle.grammar.proofs.Steps.{wider, before-ended}
-use Rattle.grammar.proofs.Moves.{no_verb, after-byte, after-stuck}
+use Rattle.grammar.proofs.Moves.{no_verb, after-byte, after_stuck}
 use Rattle.ntriples.proofs.line.predicate_at.Goals as goal
 
 pub returns-in_err-expect : goal.returns-in_err-expect
@@ -10,7 +10,7 @@ returns-in_err-expect c =
     let bs = c.args.line.now in
     let p = err_from_is_err_and c.from_residual.result c.from_residual.ensures.1 in
     let told = c.in_err-expect.ensures in
-    rw (p.1, p.2) (record { found = told.0; goes = λ s h. told.1 in_line s (λ not_so. after-stuck s bs c.args.from verb h (λ l. no_verb _ (c.requires.here.1 l) (not_so l))) })
+    rw (p.1, p.2) (record { found = told.0; goes = λ s h. told.1 in_line s (λ not_so. after_stuck s bs c.args.from verb h (λ l. no_verb _ (c.requires.here.1 l) (not_so l))) })
 
 pub returns-in_err-end : goal.returns-in_err-end
 returns-in_err-end c =

@@ -3,7 +3,7 @@ use Rattle.std.proofs.lemmas.Result.{MatchResult-weaker}
 use Rattle.grammar.specs.Regular.{empty, ◌or◌, Is}
 use Rattle.grammar.specs.Productions.{blank, WS, comment, rest}
 use Rattle.grammar.specs.Scanner.{ended, remark, in_line, piece}
-use Rattle.grammar.proofs.Slices.{piece-none, join, run-spells}
+use Rattle.grammar.proofs.Slices.{piece-none, join, run_spells}
 use Rattle.grammar.proofs.Steps.{stuck_at, run-stays, loops_ended, by_byte}
 use Rattle.grammar.proofs.Moves.{no_ended}
 use Rattle.ntriples.proofs.line.rest_at.Goals as goal
@@ -15,7 +15,7 @@ returns-then-end-line c =
     let run = c.run_end-end.ensures in
     let whole : end ≡ length bs = omega (arith, run.within) in
     record {
-      found = subst (λ x. Is rest (piece bs c.args.from x)) whole (record { spelled = join bs WS (empty or comment) c.args.from end end run.forward (omega arith) (run-spells bs blank c.args.from end run) (inl (piece-none bs end)) });
+      found = subst (λ x. Is rest (piece bs c.args.from x)) whole (record { spelled = join bs WS (empty or comment) c.args.from end end run.forward (omega arith) (run_spells bs blank c.args.from end run) (inl (piece-none bs end)) });
       goes = λ s h. tt;
     }
 
@@ -37,7 +37,7 @@ returns c =
     let run = c.run_end-end.ensures in
     record {
       found = MatchResult-weaker c.comment_at.result c.comment_at.ensures.found
-          (λ _ h. record { spelled = join bs WS (empty or comment) c.args.from end (length bs) run.forward run.within (run-spells bs blank c.args.from end run) (inr h.spelled) })
+          (λ _ h. record { spelled = join bs WS (empty or comment) c.args.from end (length bs) run.forward run.within (run_spells bs blank c.args.from end run) (inr h.spelled) })
           (λ f h. h);
       goes = λ s h. c.comment_at.ensures.goes s (by_byte s bs end 35 ended remark (run-stays s bs blank ended loops_ended c.args.from end run h) (omega arith) (omega arith) refl);
     }

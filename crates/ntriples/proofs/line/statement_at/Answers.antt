@@ -3,10 +3,10 @@ use Rattle.std.proofs.lemmas.Result.{err_from_is_err_and}
 use Rattle.grammar.specs.Regular.{Is}
 use Rattle.grammar.specs.Productions.{blank, rest}
 use Rattle.grammar.specs.Scanner.{verb, thing, dot, start, ended, in_line, Stands, piece}
-use Rattle.grammar.proofs.Slices.{run-spells}
+use Rattle.grammar.proofs.Slices.{run_spells}
 use Rattle.grammar.proofs.Steps.{run-stays, loops_start, blanks-ended}
-use Rattle.grammar.proofs.Moves.{no_dot, after-byte, after-stuck}
-use Rattle.grammar.proofs.Whole.{build-holds, holds_line}
+use Rattle.grammar.proofs.Moves.{no_dot, after-byte, after_stuck}
+use Rattle.grammar.proofs.Whole.{build_holds, holds_line}
 use Rattle.ntriples.specs.Answers.{term_of}
 use Rattle.ntriples.proofs.line.statement_at.Goals as goal
 
@@ -52,7 +52,7 @@ returns-in_err-after c =
     let e₆ = blanks-ended start bs _ c.run_end-stop.result dot c.run_end-stop.ensures e₅ in
     let p = err_from_is_err_and c.from_residual-in_err-after.result c.from_residual-in_err-after.ensures.1 in
     let told = c.in_err-after.ensures in
-    rw (p.1, p.2) (told.0, told.1 in_line start (λ not_so. after-stuck start bs c.run_end-stop.result dot e₆ (λ l. no_dot _ (c.run_end-stop.ensures.past l) (not_so l))))
+    rw (p.1, p.2) (told.0, told.1 in_line start (λ not_so. after_stuck start bs c.run_end-stop.result dot e₆ (λ l. no_dot _ (c.run_end-stop.ensures.past l) (not_so l))))
 
 pub returns-in_err-rest_at : goal.returns-in_err-rest_at
 returns-in_err-rest_at c =
@@ -80,10 +80,10 @@ returns c =
     let t = c.run_end-stop.ensures in
     let d = c.in_ok-after.ensures in
     let tail : Is rest (piece bs (c.run_end-stop.result + 1) (length bs)) = subst (λ x. Is rest (piece bs x (length bs))) d.0 c.in_ok-rest_at.ensures.found in
-    let h = build-holds c.args.base bs c.args.from _ c.run_end-middle.result _ c.run_end-last.result _ c.run_end-stop.result
+    let h = build_holds c.args.base bs c.args.from _ c.run_end-middle.result _ c.run_end-last.result _ c.run_end-stop.result
     (term_of c.in_ok-subject.subject.token (c.args.base + c.args.from)) (term_of c.in_ok-predicate.predicate.token (c.args.base + c.run_end-middle.result)) (term_of c.in_ok-object.object.token (c.args.base + c.run_end-last.result))
     (omega (arith, s.0)) m.forward (omega (arith, p.0)) l.forward (omega (arith, o.0)) t.forward d.1 d.2
     s.2 p.2 o.2
-    (record { spelled = run-spells bs blank 0 c.args.from c.requires.here.2 }) (record { spelled = run-spells bs blank _ _ m }) (record { spelled = run-spells bs blank _ _ l }) (record { spelled = run-spells bs blank _ _ t })
+    (record { spelled = run_spells bs blank 0 c.args.from c.requires.here.2 }) (record { spelled = run_spells bs blank _ _ m }) (record { spelled = run_spells bs blank _ _ l }) (record { spelled = run_spells bs blank _ _ t })
     (s.3 _) (p.3 _) (o.3 _) tail refl refl refl in
     (holds_line _ _ _ _ _ _ h, h)

@@ -5,7 +5,7 @@ use Rattle.grammar.specs.Productions.{part, IRIREF}
 use Rattle.grammar.specs.Scanner.{Stands, dot, iri, caret, carets, in_term, piece}
 use Rattle.grammar.proofs.Steps.{stuck_at, by_byte, before-ended}
 use Rattle.grammar.proofs.Moves.{no_carets}
-use Rattle.grammar.proofs.Builds.{build-datatype}
+use Rattle.grammar.proofs.Builds.{build_datatype}
 use Rattle.ntriples.proofs.scan.datatype_end.Goals as goal
 
 pub returns-in_err-expect : goal.returns-in_err-expect
@@ -30,7 +30,7 @@ returns c =
           (λ e h. (
             omega (arith, first.0, h.0),
             h.1,
-            build-datatype bs c.args.from c.requires.here.0 e c.requires.here.1 first.1 first.2 (omega (arith, first.0, h.0))
+            build_datatype bs c.args.from c.requires.here.0 e c.requires.here.1 first.1 first.2 (omega (arith, first.0, h.0))
                 (subst (λ x. Is (IRIREF part) (piece bs x e)) first.0 h.2),
           ))
           (λ f h. h);

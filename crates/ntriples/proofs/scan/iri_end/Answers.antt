@@ -4,8 +4,8 @@ use Rattle.grammar.specs.Regular.{Is}
 use Rattle.grammar.specs.Productions.{part, IRIREF, iri_char}
 use Rattle.grammar.specs.Scanner.{Next, State, Stands, iri, before, in_term, piece}
 use Rattle.grammar.proofs.Steps.{run-stays, loops_iri, stuck_at, by_byte}
-use Rattle.grammar.proofs.Moves.{no_iri, slash-stuck}
-use Rattle.grammar.proofs.Builds.{build-iri}
+use Rattle.grammar.proofs.Moves.{no_iri, slash_stuck}
+use Rattle.grammar.proofs.Builds.{build_iri}
 use Rattle.ntriples.proofs.scan.iri_end.Goals as goal
 
 pub returns-then-end-line : goal.returns-then-end-line
@@ -24,7 +24,7 @@ returns-then-line-end-eq92 c =
     let end = c.run_end-end.result in
     record {
       found = omega (arith, c.stuck_escape.ensures.place);
-      goes = λ s n h. c.stuck_escape.ensures.halts s (slash-stuck s bs end n (omega arith) (omega arith)
+      goes = λ s n h. c.stuck_escape.ensures.halts s (slash_stuck s bs end n (omega arith) (omega arith)
           (run-stays s bs iri_char (iri n) (loops_iri n) (c.args.from + 1) end c.run_end-end.ensures h));
     }
 
@@ -40,7 +40,7 @@ returns c =
           (λ e h. (
             omega (arith, h.0, run.forward),
             omega (arith, h.0, h.1),
-            subst (λ x. Is (IRIREF part) (piece bs c.args.from x)) (sym h.0) (build-iri bs c.args.from c.requires.here.0 end c.requires.here.1 run h.1 h.2),
+            subst (λ x. Is (IRIREF part) (piece bs c.args.from x)) (sym h.0) (build_iri bs c.args.from c.requires.here.0 end c.requires.here.1 run h.1 h.2),
           ))
           (λ f h. h.0);
       goes = λ s n h. MatchResult-weaker c.expect.result c.expect.ensures

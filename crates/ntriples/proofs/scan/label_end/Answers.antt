@@ -3,7 +3,7 @@ use Rattle.grammar.specs.Productions.{label_char}
 use Rattle.grammar.specs.Scanner.{Stands, under, colon, in_term, RunTo}
 use Rattle.grammar.proofs.Steps.{stuck_at, by_byte}
 use Rattle.grammar.proofs.Moves.{no_colon, label-run}
-use Rattle.grammar.proofs.Builds.{build-label}
+use Rattle.grammar.proofs.Builds.{build_label}
 use Rattle.ntriples.proofs.scan.label_end.Goals as goal
 
 pub returns-then-end-first : goal.returns-then-end-first
@@ -27,6 +27,6 @@ returns c =
     let run : RunTo label_char bs (c.args.from + 1 + 1) end = subst (λ x. RunTo label_char bs x end) told.0 c.run_end-end.ensures in
     let some : c.args.from + 1 + 1 < end = omega (arith, told.0, run.forward) in
     record {
-      found = (omega arith, run.within, build-label bs c.args.from c.requires.here.0 end c.requires.here.1 told.1 told.2 run some);
+      found = (omega arith, run.within, build_label bs c.args.from c.requires.here.0 end c.requires.here.1 told.1 told.2 run some);
       goes = λ s r h. label-run s bs (c.args.from + 1 + 1) end r run some (by_byte s bs (c.args.from + 1) 58 (under r) (colon r) h told.1 told.2 refl);
     }

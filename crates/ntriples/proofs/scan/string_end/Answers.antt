@@ -6,7 +6,7 @@ use Rattle.grammar.specs.Scanner.{Stands, string, quoted, in_term, piece}
 use Rattle.grammar.proofs.Slices.{none_yet}
 use Rattle.grammar.proofs.Steps.{run-stays, loops_string, stuck_at, by_byte}
 use Rattle.grammar.proofs.Moves.{no_string}
-use Rattle.grammar.proofs.Builds.{build-string, more-plain, more-escape}
+use Rattle.grammar.proofs.Builds.{build_string, more-plain, more-escape}
 use Rattle.ntriples.proofs.scan.string_end.Goals as goal
 use Rattle.ntriples.proofs.scan.string_end.Goals.{then-loop-pos-test+else-line-pos-eq92, else-loop-pos-test}
 
@@ -49,7 +49,7 @@ returns c =
           (λ e h. (
             omega (arith, h.0, inv.0),
             omega (arith, h.0, h.1),
-            subst (λ x. Is (STRING_LITERAL_QUOTE part) (piece bs c.args.from x)) (sym h.0) (build-string bs c.args.from c.requires.here.0 pos c.requires.here.1 inv.0 inv.3 h.1 h.2),
+            subst (λ x. Is (STRING_LITERAL_QUOTE part) (piece bs c.args.from x)) (sym h.0) (build_string bs c.args.from c.requires.here.0 pos c.requires.here.1 inv.0 inv.3 h.1 h.2),
           ))
           (λ f h. h.0);
       goes = λ s h. MatchResult-weaker c.expect.result c.expect.ensures

@@ -2,7 +2,7 @@ use Rattle.std.proofs.Common.{◌≡◌, ◌+◌, get_or, refl, subst, arith}
 use Rattle.grammar.specs.Scanner.{Stands, hyphen, in_term}
 use Rattle.grammar.proofs.Steps.{stuck_at}
 use Rattle.grammar.proofs.Moves.{no_hyphen, tag-hyphen, sub-run}
-use Rattle.grammar.proofs.Builds.{build-subtag}
+use Rattle.grammar.proofs.Builds.{build_subtag}
 use Rattle.ntriples.proofs.scan.subtag_end.Goals as goal
 
 pub returns-then-end-from : goal.returns-then-end-from
@@ -23,6 +23,6 @@ returns c =
     let bs = c.args.line.now in
     let run = c.run_end-end.ensures in
     record {
-      found = (omega (arith, run.forward), run.within, build-subtag bs c.args.from c.requires.here.0 c.run_end-end.result c.requires.here.1 run (omega (arith, run.forward)));
+      found = (omega (arith, run.forward), run.within, build_subtag bs c.args.from c.requires.here.0 c.run_end-end.result c.requires.here.1 run (omega (arith, run.forward)));
       goes = λ s h. sub-run s bs (c.args.from + 1) c.run_end-end.result run (omega (arith, run.forward)) (tag-hyphen s bs c.args.from h c.requires.here.0 c.requires.here.1);
     }

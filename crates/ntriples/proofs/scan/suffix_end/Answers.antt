@@ -3,14 +3,14 @@ use Rattle.std.proofs.lemmas.Result.{MatchResult-weaker}
 use Rattle.grammar.specs.Scanner.{quoted, at, caret}
 use Rattle.grammar.proofs.Steps.{by_byte}
 use Rattle.grammar.proofs.Moves.{quoted-ended}
-use Rattle.grammar.proofs.Builds.{no-suffix, tag-suffix, datatype-suffix}
+use Rattle.grammar.proofs.Builds.{no_suffix, tag-suffix, datatype-suffix}
 use Rattle.ntriples.proofs.scan.suffix_end.Goals as goal
 
 pub returns-then-from-line : goal.returns-then-from-line
 returns-then-from-line c =
     let bs = c.args.line.now in
     record {
-      found = (omega arith, omega arith, no-suffix bs c.args.from);
+      found = (omega arith, omega arith, no_suffix bs c.args.from);
       goes = λ s h. quoted-ended s bs c.args.from h (λ l. absurd (omega arith)) (λ l. absurd (omega arith));
     }
 
@@ -34,6 +34,6 @@ pub returns : goal.returns
 returns c =
     let bs = c.args.line.now in
     record {
-      found = (omega arith, omega arith, no-suffix bs c.args.from);
+      found = (omega arith, omega arith, no_suffix bs c.args.from);
       goes = λ s h. quoted-ended s bs c.args.from h (λ l. c.if-line-from-eq64.false) (λ l. c.if-line-from-eq94.false);
     }

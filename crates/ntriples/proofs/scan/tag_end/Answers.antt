@@ -4,7 +4,7 @@ use Rattle.grammar.specs.Scanner.{Stands, at, in_term}
 use Rattle.grammar.proofs.Slices.{none_yet}
 use Rattle.grammar.proofs.Steps.{stuck_at}
 use Rattle.grammar.proofs.Moves.{no_at, tag-run, tag-ended}
-use Rattle.grammar.proofs.Builds.{build-tag, more-subtag}
+use Rattle.grammar.proofs.Builds.{build_tag, more-subtag}
 use Rattle.ntriples.proofs.scan.tag_end.Goals as goal
 
 pub returns-then-letters-from : goal.returns-then-letters-from
@@ -45,7 +45,7 @@ returns-else-line-pos-eq45 c =
     let inv = c.loop-pos.invariant in
     let run = c.run_end-letters.ensures in
     record {
-      found = (omega (arith, inv.0, run.forward), inv.1, build-tag bs c.args.from c.requires.here.0 c.run_end-letters.result c.loop-pos.pos c.requires.here.1 run (omega (arith, run.forward)) inv.0 inv.2);
+      found = (omega (arith, inv.0, run.forward), inv.1, build_tag bs c.args.from c.requires.here.0 c.run_end-letters.result c.loop-pos.pos c.requires.here.1 run (omega (arith, run.forward)) inv.0 inv.2);
       goes = λ s h. tag-ended s bs c.loop-pos.pos (inv.3 s h) (λ l. c.if-line-pos-eq45.false);
     }
 
@@ -55,6 +55,6 @@ returns-after-loop-pos c =
     let inv = c.loop-pos.invariant in
     let run = c.run_end-letters.ensures in
     record {
-      found = (omega (arith, inv.0, run.forward), inv.1, build-tag bs c.args.from c.requires.here.0 c.run_end-letters.result c.loop-pos.pos c.requires.here.1 run (omega (arith, run.forward)) inv.0 inv.2);
+      found = (omega (arith, inv.0, run.forward), inv.1, build_tag bs c.args.from c.requires.here.0 c.run_end-letters.result c.loop-pos.pos c.requires.here.1 run (omega (arith, run.forward)) inv.0 inv.2);
       goes = λ s h. tag-ended s bs c.loop-pos.pos (inv.3 s h) (λ l. absurd (omega (arith, c.loop-pos-test.false)));
     }

@@ -3,7 +3,7 @@ use Rattle.std.proofs.lemmas.Bool.{both_ways, eqb-true}
 use Rattle.grammar.specs.Productions.{part, IRIREF}
 use Rattle.grammar.specs.Scanner.{thing, dot, before, iri}
 use Rattle.grammar.proofs.Steps.{by_byte, before-ended}
-use Rattle.grammar.proofs.Recognise.{is_all, not-all, not_stuck, first_is}
+use Rattle.grammar.proofs.Recognise.{is_all, not_all, not_stuck, first_is}
 use Rattle.ntriples.proofs.term.iri_fills.Goals as goal
 
 pub returns-then-is_empty : goal.returns-then-is_empty
@@ -19,7 +19,7 @@ returns-in-Ok c =
     let enter = by_byte (before thing) bs 0 60 (before thing) (iri dot) refl (omega (arith, told.found.0, told.found.1)) c.if-text-ne60.false refl in
     record {
       yes = is_all (IRIREF part) (λ u h. inl h) bs c.in-Ok.end told.found.1 told.found.2;
-      no = not-all (IRIREF part) (λ u h. inl h) bs c.in-Ok.end told.found.1 told.found.2 (before-ended (before thing) bs c.in-Ok.end dot (told.goes (before thing) dot enter));
+      no = not_all (IRIREF part) (λ u h. inl h) bs c.in-Ok.end told.found.1 told.found.2 (before-ended (before thing) bs c.in-Ok.end dot (told.goes (before thing) dot enter));
     }
 
 pub returns-in-Err : goal.returns-in-Err

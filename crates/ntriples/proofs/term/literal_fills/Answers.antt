@@ -3,7 +3,7 @@ use Rattle.std.proofs.lemmas.Bool.{both_ways, eqb-true}
 use Rattle.grammar.specs.Productions.{part, literal}
 use Rattle.grammar.specs.Scanner.{thing, before, string}
 use Rattle.grammar.proofs.Steps.{by_byte}
-use Rattle.grammar.proofs.Recognise.{is_all, not-all, not_stuck, first_is}
+use Rattle.grammar.proofs.Recognise.{is_all, not_all, not_stuck, first_is}
 use Rattle.ntriples.proofs.term.literal_fills.Goals as goal
 
 pub returns-then-is_empty : goal.returns-then-is_empty
@@ -19,7 +19,7 @@ returns-in-Ok c =
     let enter = by_byte (before thing) bs 0 34 (before thing) string refl (omega (arith, told.found.0, told.found.1)) c.if-text-ne34.false refl in
     record {
       yes = is_all (literal part) (λ u h. inr (inr h)) bs c.in-Ok.end told.found.1 told.found.2;
-      no = not-all (literal part) (λ u h. inr (inr h)) bs c.in-Ok.end told.found.1 told.found.2 (told.goes (before thing) enter);
+      no = not_all (literal part) (λ u h. inr (inr h)) bs c.in-Ok.end told.found.1 told.found.2 (told.goes (before thing) enter);
     }
 
 pub returns-in-Err : goal.returns-in-Err

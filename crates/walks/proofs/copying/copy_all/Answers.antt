@@ -2,9 +2,9 @@ use Rattle.std.proofs.Common.{◌≡◌, true, Option, sym, refl, ap, ◌∙◌,
 use Rattle.triples.specs.declared.triple.Triple.{Triple}
 use Rattle.triples.specs.Codes.{code_of}
 use Rattle.triples.specs.Sets.{Graph, union, adding}
-use Rattle.triples.proofs.Additions.{adds-puts}
+use Rattle.triples.proofs.Additions.{adds_puts}
 use Rattle.walks.specs.Copies.{below}
-use Rattle.walks.proofs.Walking.{passed, Current, starts-current, starts_none, steps-current, steps-one, union_more}
+use Rattle.walks.proofs.Walking.{passed, Current, starts-current, starts_none, steps_current, steps_one, union_more}
 use Rattle.walks.proofs.Matching.{walk_all}
 use Rattle.walks.proofs.copying.copy_all.Goals as goal
 
@@ -30,12 +30,12 @@ loop-candidate-preserved g c =
     let at = c.after-candidate in
     let here : f t ≡ true = subst (Current f) c.in-Some.is i.2 in
     let was : to.held c.loop-candidate.to ≡ union (below (code_of t) f) g₀ = i.3 ∙ ap (λ (x : Option Triple). union (passed x f) g₀) c.in-Some.is in
-    let puts = adds-puts _ _ (to.held c.loop-candidate.to) t (to.held c.add.new.self) c.in_default-add.field-0 c.in_default-add.ensures.adds in (
+    let puts = adds_puts _ _ (to.held c.loop-candidate.to) t (to.held c.add.new.self) c.in_default-add.field-0 c.in_default-add.ensures.adds in (
       c.add.ensures.side ∙ i.0,
       c.add.ensures.capacity ∙ i.1,
-      steps-current w t here at.result at.ensures,
+      steps_current w t here at.result at.ensures,
       puts
           ∙ ap (λ (e : Graph). adding e t) was
           ∙ union_more (below (code_of t) f) g₀ t
-          ∙ ap (λ (e : Graph). union e g₀) (sym (steps-one w t here at.result at.ensures)),
+          ∙ ap (λ (e : Graph). union e g₀) (sym (steps_one w t here at.result at.ensures)),
     )

@@ -2,7 +2,7 @@ use Rattle.std.proofs.Common.{◌≡◌, ◌+◌, true, Option, sym, ap, ◌∙�
 use Rattle.triples.specs.declared.triple.Triple.{Triple}
 use Rattle.triples.specs.Sets.{size}
 use Rattle.triples.proofs.Sizes.{size-empty, size_le}
-use Rattle.walks.proofs.Walking.{passed, Current, starts-current, starts_none, steps-current, steps-size}
+use Rattle.walks.proofs.Walking.{passed, Current, starts-current, starts_none, steps_current, steps_size}
 use Rattle.walks.proofs.Matching.{selected, walk_of}
 use Rattle.walks.proofs.counting.count_from.Goals as goal
 
@@ -27,4 +27,4 @@ loop-candidate-preserved g c =
     let at = c.after-candidate in
     let here : f t ≡ true = subst (Current f) c.in-Some.is i.0 in
     let was = i.1 ∙ ap (λ (x : Option Triple). size (passed x f)) c.in-Some.is in
-    (steps-current w t here at.result at.ensures, ap (λ n. n + 1) was ∙ sym (steps-size w t here at.result at.ensures))
+    (steps_current w t here at.result at.ensures, ap (λ n. n + 1) was ∙ sym (steps_size w t here at.result at.ensures))
