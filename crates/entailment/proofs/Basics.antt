@@ -15,9 +15,9 @@ pub and_both : (a b : Bool) → T a → T b → T (a && b)
 and_both true b s t = t
 and_both false b s t = s
 
-pub cond-true : {A : Type 0} (b : Bool) (x y : A) → T b → cond b x y ≡ x
-cond-true true x y t = refl
-cond-true false x y t = absurd t
+pub cond_by_test : {A : Type 0} (b : Bool) (x y : A) → T b → cond b x y ≡ x
+cond_by_test true x y t = refl
+cond_by_test false x y t = absurd t
 
 abbrev pub allb : {X : Type 0} → (X → Bool) → List X → Bool
 allb f [] = true

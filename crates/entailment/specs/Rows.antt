@@ -1,6 +1,6 @@
 -- The entailment patterns: fourteen rows of premises and a conclusion. A slot is a fixed term of the thirty or a letter,
 -- which stands for one term throughout its row. Assumes nothing.
-use Rattle.std.specs.Prelude.{◌≡◌, ℕ, ◌≤◌, Bool, true, false, List, [], ◌∷◌, length, Some, None, Option, ◌==◌}
+use Rattle.std.specs.Prelude.{ℕ, Bool, true, false, List, [], ◌∷◌}
 use Rattle.triples.specs.declared.triple.Triple.{Triple}
 use Rattle.entailment.specs.declared.regime.Regime.{Regime}
 use Rattle.entailment.specs.declared.regime.Regime.TheVariants.{Simple, Rdf, Rdfs}
@@ -87,34 +87,13 @@ conclusion Rdfs11 = form c (the #subClassOf) e
 conclusion Rdfs12 = form a (the #subPropertyOf) (the #member)
 conclusion Rdfs13 = form c (the #subClassOf) (the #Literal)
 
--- the rows in their order
+-- the rows in their order; a row's place is its index, from 0
 abbrev pub rows : List Row
 rows = RdfD2 ∷ Rdfs2 ∷ Rdfs3 ∷ Rdfs4a ∷ Rdfs4b ∷ Rdfs5 ∷ Rdfs6 ∷ Rdfs7 ∷ Rdfs8 ∷ Rdfs9 ∷ Rdfs10 ∷ Rdfs11 ∷ Rdfs12 ∷ Rdfs13 ∷ []
-
--- the place of a row in that list
-abbrev pub place_of : Row → ℕ
-place_of RdfD2 = 0
-place_of Rdfs2 = 1
-place_of Rdfs3 = 2
-place_of Rdfs4a = 3
-place_of Rdfs4b = 4
-place_of Rdfs5 = 5
-place_of Rdfs6 = 6
-place_of Rdfs7 = 7
-place_of Rdfs8 = 8
-place_of Rdfs9 = 9
-place_of Rdfs10 = 10
-place_of Rdfs11 = 11
-place_of Rdfs12 = 12
-place_of Rdfs13 = 13
-
--- the row at a place, or none past the list
-abbrev pub Placed : ℕ → Option Row → Type 0
-Placed n None = length rows ≤ n
-Placed n (Some row) = place_of row ≡ n
 
 -- whether a regime has a row
 abbrev pub uses : Regime → Row → Bool
 uses Simple row = false
-uses Rdf row = place_of row == 0
+uses Rdf RdfD2 = true
+uses Rdf row = false
 uses Rdfs row = true

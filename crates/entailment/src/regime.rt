@@ -1,6 +1,6 @@
 // The regimes, and the rows of the entailment patterns.
-ghost use Rattle.std.specs.Prelude.{◌≡◌};
-ghost use Rattle.entailment.specs.Rows.{place_of, uses, Placed};
+ghost use Rattle.std.specs.Prelude.{◌≡◌, slice_get};
+ghost use Rattle.entailment.specs.Rows.{rows, uses};
 
 // Which rows and which start set apply.
 #[derive(Clone, Copy, PartialEq, Eq, Debug)]
@@ -35,7 +35,7 @@ pub const ROWS: u8 = 14;
 impl Row {
     // The row's place in the list, from 0.
     pub fn place(self) -> u8
-        ensures { result ≡ place_of self }
+        ensures { slice_get rows result ≡ Some self }
     {
         match self {
             Row::RdfD2 => 0,
@@ -55,9 +55,9 @@ impl Row {
         }
     }
 
-    // The row at a place.
+    // The row at a place; none past the last.
     pub fn at(place: u8) -> Option<Row>
-        ensures { Placed place result }
+        ensures { result ≡ slice_get rows place }
     {
         match place {
             0 => Some(Row::RdfD2),
@@ -86,7 +86,7 @@ impl Regime {
     {
         match self {
             Regime::Simple => false,
-            Regime::Rdf => row.place() == 0,
+            Regime::Rdf => matches!(row, Row::RdfD2),
             Regime::Rdfs => true,
         }
     }

@@ -39,7 +39,7 @@ pub enum Verdict {
 // Whether the token names something whose spelling is too long.
 fn is_too_long(token: Token) -> bool
     ensures yes { (k : ℕ) → result ≡ true → Long (term_of token.entry k) }
-    ensures no { (k : ℕ) → result ≡ false → Long (term_of token.entry k) → ⊥ }
+    ensures no { (k : ℕ) → result ≡ false → ¬ Long (term_of token.entry k) }
 {
     let mut buffer = [0u8; LONGEST];
     match spell(token, &mut buffer) {

@@ -1,5 +1,5 @@
 // The lines of a document, one after another.
-ghost use Rattle.std.specs.Prelude.{◌≡◌, ℕ, ◌+◌, ◌-◌, ◌<◌, ◌≤◌, length, MatchBool, MatchOption, slice_index};
+ghost use Rattle.std.specs.Prelude.{◌≡◌, ℕ, ◌+◌, ◌-◌, ◌<◌, ◌≤◌, length, IsSomeAnd, MatchBool, MatchOption, slice_index};
 ghost use Rattle.grammar.specs.Readings.{Reading};
 ghost use Rattle.grammar.specs.Documents.{EndsLine, LineAt};
 ghost use Rattle.ntriples.specs.Answers.{reading};
@@ -19,7 +19,7 @@ pub struct LineRead<'a> {
 fn line_end(text: &[u8], from: usize) -> usize
     requires within { from ≤ length text.now }
     ensures bounds { (from ≤ result) × (result ≤ length text.now) }
-    ensures unbroken { (k : ℕ) → from ≤ k → k < result → EndsLine (slice_index text.now k) → ⊥ }
+    ensures unbroken { (k : ℕ) → from ≤ k → k < result → ¬ EndsLine (slice_index text.now k) }
     ensures ended { result < length text.now → EndsLine (slice_index text.now result) }
 {
     let mut pos = from;
@@ -38,7 +38,7 @@ fn next_start(text: &[u8], end: usize) -> usize
 
 // Whether the document has no line at `from`.
 fn is_over(text: &[u8], from: usize) -> bool
-    ensures { MatchBool result ((length text.now ≤ from) × ((o : Reading) (n : ℕ) → LineAt text.now from o n → ⊥)) (from < length text.now) }
+    ensures { MatchBool result ((length text.now ≤ from) × ((o : Reading) (n : ℕ) → ¬ LineAt text.now from o n)) (from < length text.now) }
 {
     from >= text.len()
 }
@@ -46,7 +46,7 @@ fn is_over(text: &[u8], from: usize) -> bool
 // The line from `from` up to `end`.
 fn line_between<'a>(text: &'a [u8], from: usize, end: usize) -> LineRead<'a>
     requires here { (from < length text.now) × (from ≤ end) × (end ≤ length text.now) }
-    requires unbroken { (k : ℕ) → from ≤ k → k < end → EndsLine (slice_index text.now k) → ⊥ }
+    requires unbroken { (k : ℕ) → from ≤ k → k < end → ¬ EndsLine (slice_index text.now k) }
     requires ended { end < length text.now → EndsLine (slice_index text.now end) }
     ensures reads { LineAt text.now from (reading result.outcome) result.next }
     ensures only { (o : Reading) (n : ℕ) → LineAt text.now from o n → (o ≡ reading result.outcome) × (n ≡ result.next) }
@@ -60,7 +60,7 @@ fn line_between<'a>(text: &'a [u8], from: usize, end: usize) -> LineRead<'a>
 // where the document has ended.
 pub fn read_line<'a>(text: &'a [u8], from: usize) -> Option<LineRead<'a>>
     ensures reads { MatchOption result (length text.now ≤ from) (λ x. LineAt text.now from (reading x.outcome) x.next) }
-    ensures only { (o : Reading) (n : ℕ) → LineAt text.now from o n → MatchOption result ⊥ (λ x. (o ≡ reading x.outcome) × (n ≡ x.next)) }
+    ensures only { (o : Reading) (n : ℕ) → LineAt text.now from o n → IsSomeAnd result (λ x. (o ≡ reading x.outcome) × (n ≡ x.next)) }
 {
     if is_over(text, from) {
         return None;

@@ -17,7 +17,7 @@ enum NameForm {
 // Whether the text is an IRIREF.
 fn iri_fills(text: &[u8]) -> bool
     ensures yes { result ≡ true → Is (IRIREF part) text.now }
-    ensures no { result ≡ false → Is (IRIREF part) text.now → ⊥ }
+    ensures no { result ≡ false → ¬ Is (IRIREF part) text.now }
 {
     if text.is_empty() {
         return false;
@@ -34,7 +34,7 @@ fn iri_fills(text: &[u8]) -> bool
 // Whether the text is a literal.
 fn literal_fills(text: &[u8]) -> bool
     ensures yes { result ≡ true → Is (literal part) text.now }
-    ensures no { result ≡ false → Is (literal part) text.now → ⊥ }
+    ensures no { result ≡ false → ¬ Is (literal part) text.now }
 {
     if text.is_empty() {
         return false;
@@ -50,7 +50,7 @@ fn literal_fills(text: &[u8]) -> bool
 
 fn fills(text: &[u8], form: NameForm) -> bool
     ensures yes { result ≡ true → Is (production (form_kind form)) text.now }
-    ensures no { result ≡ false → Is (production (form_kind form)) text.now → ⊥ }
+    ensures no { result ≡ false → ¬ Is (production (form_kind form)) text.now }
 {
     match form {
         NameForm::Iri => iri_fills(text),
@@ -61,7 +61,7 @@ fn fills(text: &[u8], form: NameForm) -> bool
 // Whether the text is an IRIREF.
 pub fn is_iri(text: &[u8]) -> bool
     ensures yes { result ≡ true → Is (IRIREF part) text.now }
-    ensures no { result ≡ false → Is (IRIREF part) text.now → ⊥ }
+    ensures no { result ≡ false → ¬ Is (IRIREF part) text.now }
 {
     fills(text, NameForm::Iri)
 }
@@ -69,7 +69,7 @@ pub fn is_iri(text: &[u8]) -> bool
 // Whether the text is a literal.
 pub fn is_literal(text: &[u8]) -> bool
     ensures yes { result ≡ true → Is (literal part) text.now }
-    ensures no { result ≡ false → Is (literal part) text.now → ⊥ }
+    ensures no { result ≡ false → ¬ Is (literal part) text.now }
 {
     fills(text, NameForm::Literal)
 }

@@ -26,7 +26,7 @@ impl TooLong {
 // Whether the token denotes a name: labels do not, nor do bytes that the token's production does not spell.
 fn has_name(token: Token) -> bool
     ensures yes { result ≡ true → (n : Name) × Denotes (kind_of token.entry) (bytes_of token.entry) n }
-    ensures no { result ≡ false → (n : Name) → Denotes (kind_of token.entry) (bytes_of token.entry) n → ⊥ }
+    ensures no { result ≡ false → (n : Name) → ¬ Denotes (kind_of token.entry) (bytes_of token.entry) n }
 {
     match token {
         Token::Iri(text) => is_iri(text),
@@ -81,7 +81,7 @@ pub fn spell(token: Token, out: &mut [u8; LONGEST]) -> Result<Option<usize>, Too
 // Whether the bytes are the canonical spelling of a token of this kind; the token has the bytes.
 fn is_lawful_as(token: Token, bytes: &[u8]) -> bool
     requires same { bytes_of token ≡ bytes.now }
-    ensures { MatchBool result (LawfulAs (kind_of token.entry) bytes.now) (LawfulAs (kind_of token.entry) bytes.now → ⊥) }
+    ensures { MatchBool result (LawfulAs (kind_of token.entry) bytes.now) (¬ LawfulAs (kind_of token.entry) bytes.now) }
 {
     if !has_name(token) {
         return false;
@@ -96,7 +96,7 @@ fn is_lawful_as(token: Token, bytes: &[u8]) -> bool
 
 // Whether the bytes are a lawful spelling: the canonical spelling of some token, of at most 255 bytes.
 pub fn is_lawful(bytes: &[u8]) -> bool
-    ensures { MatchBool result (Lawful bytes.now) (Lawful bytes.now → ⊥) }
+    ensures { MatchBool result (Lawful bytes.now) (¬ Lawful bytes.now) }
 {
     if is_lawful_as(Token::Iri(bytes), bytes) {
         return true;

@@ -8,7 +8,7 @@ use crate::LONGEST;
 
 // The byte that an escape letter stands for.
 fn decoded(letter: u8) -> Option<u8>
-    ensures { MatchOption result ((c : ℕ) → Escape letter c → ⊥) (λ c. Escape letter c) }
+    ensures { MatchOption result ((c : ℕ) → ¬ Escape letter c) (λ c. Escape letter c) }
 {
     match char::from(letter) {
         't' => Some(b'\t'),
@@ -63,7 +63,7 @@ struct Piece {
 fn piece_at(text: &[u8], i: usize) -> Option<Piece>
     requires within { i < length text.now }
     ensures ends { IfSome result (λ p. (i < p.next) × (p.next ≤ length text.now)) }
-    ensures splits { MatchOption result ((c : ℕ) (w : List ℕ) → Splits (drop i text.now) c w → ⊥) (λ p. Splits (drop i text.now) p.byte (drop p.next text.now)) }
+    ensures splits { MatchOption result ((c : ℕ) (w : List ℕ) → ¬ Splits (drop i text.now) c w) (λ p. Splits (drop i text.now) p.byte (drop p.next text.now)) }
 {
     if text[i] != b'\\' {
         return Some(Piece {
