@@ -6,6 +6,7 @@ ghost use Rattle.linter.specs.Answers.{Tells};
 use crate::finding::Finding;
 use crate::verdict::Verdict;
 use std::alloc::{AllocError, Global};
+use std::fmt;
 
 // How many lines a document has, how many of each kind, and those that are refused.
 #[derive(Drop)]
@@ -51,5 +52,24 @@ impl Survey {
             }
         }
         Ok(())
+    }
+}
+
+impl fmt::Display for Survey {
+    ghost use Rattle.std.specs.Prelude.{Some};
+    ghost use Rattle.linter.specs.Sentences.{summary};
+
+    ghost output = { λ s. Some (summary s) };
+
+    fn fmt<W: fmt::Write>(&self, f: &mut fmt::Formatter<W>) -> fmt::Result {
+        let lines = self.lines;
+        let triples = self.triples;
+        let comments = self.comments;
+        let empty = self.empty;
+        let unreadable = self.findings.len();
+        write!(
+            f,
+            "lines: {lines}, triples: {triples}, comments: {comments}, empty: {empty}, cannot be read: {unreadable}"
+        )
     }
 }

@@ -11,14 +11,7 @@ fn main(rt: HostRuntime) -> anyhow::Result<()> {
     let mut text = Vec::new(heap);
     let _ = rt.stdin().read_to_end(&mut text)?;
     let found = survey(heap, text.as_slice())?;
-    let lines = found.lines;
-    let triples = found.triples;
-    let comments = found.comments;
-    let empty = found.empty;
-    let unreadable = found.findings.len();
-    println!(rt;
-        "lines: {lines}, triples: {triples}, comments: {comments}, empty: {empty}, cannot be read: {unreadable}"
-    )?;
+    println!(rt; "{found}")?;
     for finding in found.findings.iter() {
         println!(rt; "{finding}")?;
     }
