@@ -1,6 +1,6 @@
 -- Facts on tests, and on what holds of the elements of a list.
 use Rattle.std.proofs.Common.{◌≡◌, suc, Bool, true, false, cond, ◌&&◌, ◌||◌, T, List, [], ◌∷◌, map, refl, subst, suc-le-suc, zero-le}
-use Rattle.std.specs.List.{ContainsAt as Has, AllByRecursion}
+use Rattle.std.specs.List.{ContainsAt as Has, AllByRecursion, list_all, list_any}
 use Rattle.std.proofs.ByRecursion.{all-has, all_has_itself}
 
 pub and_left : (a b : Bool) → T (a && b) → T a
@@ -19,13 +19,9 @@ pub cond_by_test : {A : Type 0} (b : Bool) (x y : A) → T b → cond b x y ≡ 
 cond_by_test true x y t = refl
 cond_by_test false x y t = absurd t
 
-abbrev pub allb : {X : Type 0} → (X → Bool) → List X → Bool
-allb f [] = true
-allb f (x ∷ xs) = f x && allb f xs
-
-pub all-by_test : {X : Type 0} (P : X → Type 0) (f : X → Bool) → ((x : X) → T (f x) → P x) → (xs : List X) → T (allb f xs) → AllByRecursion P xs
+pub all-by_test : {X : Type 0} (P : X → Type 0) (f : X → Bool) → ((x : X) → T (f x) → P x) → (xs : List X) → T (list_all f xs) → AllByRecursion P xs
 all-by_test P f h [] t = tt
-all-by_test P f h (x ∷ xs) t = (h x (and_left (f x) (allb f xs) t), all-by_test P f h xs (and_right (f x) (allb f xs) t))
+all-by_test P f h (x ∷ xs) t = (h x (and_left (f x) (list_all f xs) t), all-by_test P f h xs (and_right (f x) (list_all f xs) t))
 
 pub has_first : {X : Type 0} (x : X) (xs : List X) → Has (x ∷ xs) x
 has_first x xs = (0, suc-le-suc zero-le, λ d. refl)
@@ -40,16 +36,12 @@ all_unmap f P (x ∷ xs) h = (h.0, all_unmap f P xs h.1)
 pub has_map : {X Y : Type 0} (f : X → Y) (xs : List X) (x : X) → Has xs x → Has (map f xs) (f x)
 has_map f xs x h = all-has (λ z. Has (map f xs) (f z)) xs x (all_unmap f (λ y. Has (map f xs) y) xs (all_has_itself (map f xs))) h
 
--- a test that finds an element, by a test of equality
-abbrev pub someb : {X : Type 0} → (X → Bool) → List X → Bool
-someb f [] = false
-someb f (x ∷ xs) = f x || someb f xs
-
-pub has_by_test : {X : Type 0} (f : X → Bool) (y : X) → ((x : X) → T (f x) → x ≡ y) → (xs : List X) → T (someb f xs) → Has xs y
+-- a test of equality finds an element
+pub has_by_test : {X : Type 0} (f : X → Bool) (y : X) → ((x : X) → T (f x) → x ≡ y) → (xs : List X) → T (list_any f xs) → Has xs y
 has_by_test f y h [] t = absurd t
 has_by_test f y h (x ∷ xs) t = go (f x) (h x) t (has_by_test f y h xs)
   where
-    go : (b : Bool) → (T b → x ≡ y) → T (b || someb f xs) → (T (someb f xs) → Has xs y) → Has (x ∷ xs) y
+    go : (b : Bool) → (T b → x ≡ y) → T (b || list_any f xs) → (T (list_any f xs) → Has xs y) → Has (x ∷ xs) y
     go true e u below = subst (λ z. Has (x ∷ xs) z) (e tt) (has_first x xs)
     go false e u below = has_later x y xs (below u)
 

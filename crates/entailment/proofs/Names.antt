@@ -1,6 +1,6 @@
 -- The start sets speak of names only, and of each name.
 use Rattle.std.proofs.Common.{◌≡◌, ℕ, zero, suc, ◌+◌, ◌-◌, ◌<◌, ◌≤◌, Bool, true, false, cond, ◌&&◌, T, List, [], ◌∷◌, ◌++◌, length, get_or, sym, subst, suc-le-suc, le_of_suc-le-suc, not-suc-le-zero, arith}
-use Rattle.std.specs.List.{ContainsAt as Has, AllByRecursion}
+use Rattle.std.specs.List.{ContainsAt as Has, AllByRecursion, list_all}
 use Rattle.std.proofs.ByRecursion.{All-append, All-map, All-weaker}
 use Rattle.triples.specs.declared.triple.Triple.{Triple}
 use Rattle.entailment.specs.declared.regime.Regime.{Regime}
@@ -9,7 +9,7 @@ use Rattle.entailment.specs.Terms.{Term, iri, literal, blank, named, position, i
 use Rattle.entailment.specs.Vocabulary.{#type, #Property, #Resource, #CMP, #domain, #range}
 use Rattle.entailment.specs.Rows.{triple}
 use Rattle.entailment.specs.Starts.{start, rdf_start, rdfs_start, rdf_fixed, rdfs_fixed, each}
-use Rattle.entailment.proofs.Basics.{and_left, and_right, allb, all-by_test, has_first, has_later}
+use Rattle.entailment.proofs.Basics.{and_left, and_right, all-by_test, has_first, has_later}
 
 -- a triple of names
 abbrev pub Named : List Term → Triple → Type 0
@@ -77,7 +77,7 @@ module _ (more : List Term) where
   abbrev ts : List Term
   ts = thirty ++ more
 
-  fixed : (xs : List Triple) → T (allb (λ t. (is_name ts t.subject && is_name ts t.predicate) && is_name ts t.object) xs) → AllByRecursion (Named ts) xs
+  fixed : (xs : List Triple) → T (list_all (λ t. (is_name ts t.subject && is_name ts t.predicate) && is_name ts t.object) xs) → AllByRecursion (Named ts) xs
   fixed xs h = all-by_test (Named ts) (λ t. (is_name ts t.subject && is_name ts t.predicate) && is_name ts t.object)
       (λ t u. let l = and_left (is_name ts t.subject && is_name ts t.predicate) (is_name ts t.object) u in
       (and_left (is_name ts t.subject) (is_name ts t.predicate) l, and_right (is_name ts t.subject) (is_name ts t.predicate) l, and_right (is_name ts t.subject && is_name ts t.predicate) (is_name ts t.object) u))

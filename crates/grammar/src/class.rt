@@ -85,10 +85,10 @@ impl Class for EscapeLetters {
     ghost ranges = { escape_letter };
 
     fn contains(b: u8) -> bool {
-        match char::from(b) {
-            't' | 'b' | 'n' | 'r' | 'f' | '"' | '\'' | '\\' => true,
-            _ => false,
-        }
+        matches!(
+            char::from(b),
+            't' | 'b' | 'n' | 'r' | 'f' | '"' | '\'' | '\\'
+        )
     }
 }
 

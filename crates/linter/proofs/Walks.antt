@@ -1,12 +1,13 @@
 -- The walk through a document's lines: what is known at each line's start. Assumes nothing.
-use Rattle.std.proofs.Common.{◌≡◌, ℕ, ◌-◌, ◌≤◌, Bool, true, false, cond, ◌&&◌, eqb, List, [], ◌∷◌, ◌++◌, length, get_or, drop, sym, refl, ap, ◌∙◌, subst, append_assoc, arith}
+use Rattle.std.proofs.Common.{◌≡◌, ℕ, ◌-◌, ◌≤◌, Bool, true, false, cond, ◌&&◌, eqb, List, [], ◌∷◌, ◌++◌, length, get_or, drop, Result, sym, refl, ap, ◌∙◌, subst, append_assoc, arith}
 use Rattle.std.proofs.lemmas.List.{append-nil, length_push, drop_all}
 use Rattle.std.proofs.lemmas.Bool.{and_parts}
 use Rattle.grammar.specs.Readings.{Reading}
 use Rattle.grammar.specs.Documents.{Row, LineAt, Lines, none, more, joined}
 use Rattle.grammar.proofs.Unique.{one_lines, lines_join}
 use Rattle.linter.specs.declared.tally.Survey.{Survey}
-use Rattle.linter.specs.declared.verdict.Verdict.{Verdict as Answer}
+use Rattle.linter.specs.declared.verdict.Refused.{Refused}
+use Rattle.linter.specs.declared.verdict.Content.{Content}
 use Rattle.linter.specs.Adding.{Added}
 use Rattle.linter.specs.Answers.{verdict, Tells}
 use Rattle.linter.specs.Verdicts.{Verdict, Judged, Verdicts, shown, ends_in, bare_lf}
@@ -52,7 +53,7 @@ module _ (text : List ℕ) (pos : ℕ) (r : Reading) (next : ℕ) (after_cr : Bo
   }
 
   -- past a line that is shown, with its verdict
-  pub counted : (t : Survey) (v : Answer) → Judged r (verdict v) → Added v s t → false ≡ (after_cr && eqb (get_or text pos 0) 10) → Walked text next cr t
+  pub counted : (t : Survey) (v : Result Content Refused) → Judged r (verdict v) → Added v s t → false ≡ (after_cr && eqb (get_or text pos 0) 10) → Walked text next cr t
   counted t v j a whole = record {
     seen = w.seen ++ verdict v ∷ [];
     tells = tells_more w.seen s w.tells v t a;

@@ -1,7 +1,7 @@
 -- What one line more changes in a survey. Assumes nothing.
-use Rattle.std.specs.Prelude.{◌≡◌, ℕ, ◌+◌, ◌^◌, ◌<◌, ◌≤◌, cond, List, [], ◌∷◌, ◌++◌, vec_items}
-use Rattle.linter.specs.declared.verdict.Verdict.{Verdict as Answer}
-use Rattle.linter.specs.declared.verdict.Verdict.TheVariants.{Triple, Comment, Empty, Refused}
+use Rattle.std.specs.Prelude.{◌≡◌, ℕ, ◌+◌, ◌^◌, ◌<◌, ◌≤◌, cond, List, [], ◌∷◌, ◌++◌, vec_items, Ok, Err, Result}
+use Rattle.linter.specs.declared.verdict.Refused.{Refused}
+use Rattle.linter.specs.declared.verdict.Content.{Content}
 use Rattle.linter.specs.declared.finding.Finding.{Finding}
 use Rattle.linter.specs.declared.tally.Survey.{Survey}
 use Rattle.linter.specs.Answers.{verdict}
@@ -15,14 +15,12 @@ pub record Room (s : Survey) : Type 0 where
   pub of_empty : s.empty ≤ s.lines
 
 -- the findings, where line n more has this verdict
-abbrev pub findings_with : List Finding → ℕ → Answer → List Finding
-findings_with fs n Triple = fs
-findings_with fs n Comment = fs
-findings_with fs n Empty = fs
-findings_with fs n (Refused r k) = fs ++ record { line = n; refusal = r; offset = k } ∷ []
+abbrev pub findings_with : List Finding → ℕ → Result Content Refused → List Finding
+findings_with fs n (Ok c) = fs
+findings_with fs n (Err e) = fs ++ record { line = n; refused = e } ∷ []
 
 -- the second survey is the first and one line more, with its verdict
-pub record Added (v : Answer) (s t : Survey) : Type 0 where
+pub record Added (v : Result Content Refused) (s t : Survey) : Type 0 where
   pub one_line : t.lines ≡ s.lines + 1
   pub triple : t.triples ≡ s.triples + cond (is_a_triple (verdict v)) 1 0
   pub comment : t.comments ≡ s.comments + cond (is_a_comment (verdict v)) 1 0

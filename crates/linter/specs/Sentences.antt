@@ -24,9 +24,9 @@ reason (TooLong t) = codes "the spelling of this term has more than 255 bytes"
 abbrev pub sentence : Finding → List ℕ
 sentence f =
     codes "line " ++ (decimal f.line
-    ++ (codes ", offset " ++ (decimal f.offset
-    ++ (codes ": refused " ++ (decimal (refusal_number f.refusal)
-    ++ (codes ": " ++ reason f.refusal))))))
+    ++ (codes ", offset " ++ (decimal f.refused.offset
+    ++ (codes ": refused " ++ (decimal (refusal_number f.refused.refusal)
+    ++ (codes ": " ++ reason f.refused.refusal))))))
 
 -- the counts of a survey
 abbrev pub summary : Survey → List ℕ

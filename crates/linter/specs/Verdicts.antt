@@ -1,5 +1,5 @@
 -- What a linter finds in a document: a verdict on each of its lines. Assumes nothing.
-use Rattle.std.specs.Prelude.{◌≡◌, ℕ, ◌+◌, ◌<◌, Bool, true, false, cond, ◌&&◌, List, [], ◌∷◌, ◌++◌, length, nat_eq}
+use Rattle.std.specs.Prelude.{◌≡◌, ℕ, ◌+◌, ◌<◌, Bool, true, false, cond, ◌&&◌, List, [], ◌∷◌, ◌++◌, length, count_by, nat_eq}
 use Rattle.grammar.specs.Readings.{Term, Reading, a_triple, a_comment, nothing, a_fault}
 use Rattle.grammar.specs.Documents.{Row}
 use Rattle.spelling.specs.Names.{Name, Denotes, canonical, longest}
@@ -66,18 +66,14 @@ is_nothing is_comment = false
 is_nothing is_empty = true
 is_nothing (refused n k) = false
 
-abbrev pub count : (Verdict → Bool) → List Verdict → ℕ
-count p [] = 0
-count p (v ∷ vs) = cond (p v) 1 0 + count p vs
-
 abbrev pub triples : List Verdict → ℕ
-triples vs = count is_a_triple vs
+triples vs = count_by is_a_triple vs
 
 abbrev pub comments : List Verdict → ℕ
-comments vs = count is_a_comment vs
+comments vs = count_by is_a_comment vs
 
 abbrev pub empties : List Verdict → ℕ
-empties vs = count is_nothing vs
+empties vs = count_by is_nothing vs
 
 -- a line that cannot be read: its number, the refusal number and the offset
 pub record Found : Type 0 where

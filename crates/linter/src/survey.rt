@@ -17,7 +17,9 @@ fn is_half_of_pair(text: &[u8], pos: usize, after_cr: bool) -> bool
     after_cr && text[pos] == b'\n'
 }
 
-// The survey of the document. A line feed that follows a carriage return is part of that line's end, and no line.
+// The survey of the document. An offset is kept and no iterator of lines, since the first byte of the next line is looked
+// at together with the last of this one. A line feed that follows a carriage return is part of that line's end, and no line.
+#[tactic(auto, using(crate::proofs::Bytes::lengths))]
 pub fn survey(heap: Global, text: &[u8]) -> Result<Survey, AllocError>
     ensures exists { IfOk result (λ s. (rows : List Row) × (vs : List Judgement) × Lines 0 text.now rows × (joined rows ≡ text.now) × Verdicts (shown false rows) vs × Tells vs s) }
     ensures only { IfOk result (λ s. (rows : List Row) (vs : List Judgement) → Lines 0 text.now rows → Verdicts (shown false rows) vs → Tells vs s) }

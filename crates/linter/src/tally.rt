@@ -4,7 +4,7 @@ ghost use Rattle.linter.specs.Adding.{Room, Added};
 ghost use Rattle.linter.specs.Answers.{Tells};
 
 use crate::finding::Finding;
-use crate::verdict::Verdict;
+use crate::verdict::{Content, Verdict};
 use std::alloc::{AllocError, Global};
 use std::fmt;
 
@@ -39,16 +39,12 @@ impl Survey {
     {
         self.lines += 1;
         match judged {
-            Verdict::Triple => self.triples += 1,
-            Verdict::Comment => self.comments += 1,
-            Verdict::Empty => self.empty += 1,
-            Verdict::Refused(refusal, offset) => {
-                let finding = Finding {
-                    line: self.lines,
-                    refusal,
-                    offset,
-                };
-                self.findings.push(finding)?;
+            Ok(Content::Triple) => self.triples += 1,
+            Ok(Content::Comment) => self.comments += 1,
+            Ok(Content::Empty) => self.empty += 1,
+            Err(refused) => {
+                let line = self.lines;
+                self.findings.push(Finding { line, refused })?;
             }
         }
         Ok(())

@@ -2,7 +2,7 @@
 use crate::finding::Finding;
 use crate::survey::survey;
 use crate::tally::Survey;
-use crate::verdict::Refusal;
+use crate::verdict::{Refusal, Refused};
 use ntriples::fault::FaultKind;
 use spelling::TooLong;
 use std::alloc::{AllocError, Global};
@@ -13,10 +13,8 @@ use std::test::Fail;
 type Told = (usize, u8, usize);
 
 fn first_finding(s: &Survey) -> Option<Told> {
-    match s.findings.get(0) {
-        Some(f) => Some((f.line, f.refusal.number(), f.offset)),
-        None => None,
-    }
+    let f = s.findings.first()?;
+    Some((f.line, f.refused.refusal.number(), f.refused.offset))
 }
 
 // The counts are of lines, triples, comments, empty lines and findings.
@@ -105,11 +103,11 @@ fn long_spellings(rt: HostRuntime) -> Result<(), Fail> {
 }
 
 fn prints(rt: &impl Abort, heap: Global, refusal: Refusal, want: &str) -> Result<(), Fail> {
-    let finding = Finding {
-        line: 3,
+    let refused = Refused {
         refusal,
         offset: 57,
     };
+    let finding = Finding { line: 3, refused };
     let text = finding.to_string(heap)?;
     assert_eq!(rt; text.as_str(), want);
     Ok(())

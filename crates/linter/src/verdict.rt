@@ -1,15 +1,16 @@
 // The verdict on one line.
-ghost use Rattle.std.specs.Prelude.{◌≡◌, ℕ, true, false};
-ghost use Rattle.ntriples.specs.Answers.{term_of, located_term, line_reading, reading};
-ghost use Rattle.linter.specs.Answers.{refusal_number, verdict};
+ghost use Rattle.std.specs.Prelude.{◌≡◌, MatchResult};
+ghost use Rattle.ntriples.specs.Answers.{located_term, line_reading, reading};
+ghost use Rattle.linter.specs.Answers.{refusal_number, too_long_at, verdict};
 ghost use Rattle.linter.specs.Verdicts.{Long, Judged, JudgedTriple, Verdict as Judgement};
 
 use ntriples::fault::{Fault, FaultKind};
-use ntriples::token::{Line, Statement, Token};
+use ntriples::token::{Line, Located, Statement, Token};
 use spelling::{LONGEST, TooLong, spell};
+use std::fmt;
 
 // Why a line is refused: it cannot be read, or it names something whose spelling is too long.
-#[derive(Clone, Copy)]
+#[derive(Clone, Copy, Debug, PartialEq, Eq)]
 pub enum Refusal {
     Fault(FaultKind),
     TooLong(TooLong),
@@ -27,42 +28,73 @@ impl Refusal {
     }
 }
 
-// What a line holds, or why it is refused and at which offset.
-#[derive(Clone, Copy)]
-pub enum Verdict {
+impl fmt::Display for Refusal {
+    ghost use Rattle.std.specs.Prelude.{Some};
+    ghost use Rattle.linter.specs.Sentences.{reason};
+
+    ghost output = { λ r. Some (reason r) };
+
+    fn fmt<W: fmt::Write>(&self, f: &mut fmt::Formatter<W>) -> fmt::Result {
+        f.write_str(match self {
+            Refusal::Fault(FaultKind::HighByte) => "a byte above 127 stands here",
+            Refusal::Fault(FaultKind::UnicodeEscape) => "the escapes \\u and \\U are not read",
+            Refusal::Fault(FaultKind::Unexpected) => "the line cannot go on here",
+            Refusal::TooLong(_) => "the spelling of this term has more than 255 bytes",
+        })
+    }
+}
+
+// Why a line is refused, and at which offset.
+#[derive(Clone, Copy, Debug, PartialEq, Eq)]
+pub struct Refused {
+    pub refusal: Refusal,
+    pub offset: usize,
+}
+
+impl From<Fault> for Refused {
+    ghost use Rattle.linter.specs.Answers.{fault_at};
+
+    ghost from_gives = { λ f e. e ≡ fault_at f };
+
+    fn from(fault: Fault) -> Refused {
+        Refused {
+            refusal: Refusal::Fault(fault.kind),
+            offset: fault.offset,
+        }
+    }
+}
+
+// What a line holds that is not refused.
+#[derive(Clone, Copy, Debug, PartialEq, Eq)]
+pub enum Content {
     Triple,
     Comment,
     Empty,
-    Refused(Refusal, usize),
 }
 
-// Whether the token names something whose spelling is too long.
-fn is_too_long(token: Token) -> bool
-    ensures yes { (k : ℕ) → result ≡ true → Long (term_of token.entry k) }
-    ensures no { (k : ℕ) → result ≡ false → ¬ Long (term_of token.entry k) }
+// What a line holds, or why it is refused.
+pub type Verdict = Result<Content, Refused>;
+
+// Refuses a term that names something whose spelling is too long.
+fn measure(term: Located<Token>) -> Result<(), Refused>
+    ensures { MatchResult result (λ _. ¬ Long (located_term term.entry)) (λ e. Long (located_term term.entry) × (e ≡ too_long_at term.entry.offset)) }
 {
     let mut buffer = [0u8; LONGEST];
-    match spell(token, &mut buffer) {
-        Ok(_) => false,
-        Err(_) => true,
-    }
+    let _ = spell(term.item, &mut buffer).map_err(|long| Refused {
+        refusal: Refusal::TooLong(long),
+        offset: term.offset,
+    })?;
+    Ok(())
 }
 
 // The verdict on a triple: it is refused at the first of its terms that is too long.
 fn judge_triple(triple: &Statement) -> Verdict
     ensures { JudgedTriple (located_term triple.now.subject) (located_term triple.now.predicate) (located_term triple.now.object) (verdict result) }
 {
-    let too_long = Refusal::TooLong(TooLong);
-    if is_too_long(triple.subject.item) {
-        return Verdict::Refused(too_long, triple.subject.offset);
-    }
-    if is_too_long(triple.predicate.item) {
-        return Verdict::Refused(too_long, triple.predicate.offset);
-    }
-    if is_too_long(triple.object.item) {
-        return Verdict::Refused(too_long, triple.object.offset);
-    }
-    Verdict::Triple
+    measure(triple.subject)?;
+    measure(triple.predicate)?;
+    measure(triple.object)?;
+    Ok(Content::Triple)
 }
 
 // The verdict on a line that can be read.
@@ -71,8 +103,8 @@ fn judge_line(line: Line) -> Verdict
 {
     match line {
         Line::Triple(triple) => judge_triple(&triple.item),
-        Line::Comment => Verdict::Comment,
-        Line::Empty => Verdict::Empty,
+        Line::Comment => Ok(Content::Comment),
+        Line::Empty => Ok(Content::Empty),
     }
 }
 
@@ -81,8 +113,6 @@ pub fn judge(outcome: Result<Line, Fault>) -> Verdict
     ensures judged { Judged (reading outcome.entry) (verdict result) }
     ensures only { (v : Judgement) → Judged (reading outcome.entry) v → v ≡ verdict result }
 {
-    match outcome {
-        Ok(line) => judge_line(line),
-        Err(fault) => Verdict::Refused(Refusal::Fault(fault.kind), fault.offset),
-    }
+    let line = outcome?;
+    judge_line(line)
 }

@@ -10,15 +10,6 @@ add-requires c =
     let w = c.loop-line.invariant in
     tells_room w.seen c.loop-line.survey w.tells (omega (arith, w.few, lengths _ _ _ _ c.in-Some.ensures.reads))
 
-pub overflow_sub-after_cr : goal.overflow_sub-after_cr
-overflow_sub-after_cr c = omega (arith, lengths _ _ _ _ c.in-Some.ensures.reads)
-
-pub bounds-text-line : goal.bounds-text-line
-bounds-text-line c = omega (arith, lengths _ _ _ _ c.in-Some.ensures.reads)
-
-pub loop-line-smaller : goal.loop-line-smaller
-loop-line-smaller c = omega (arith, lengths _ _ _ _ c.in-Some.ensures.reads)
-
 pub loop-line-preserved : goal.loop-line-preserved
 loop-line-preserved c =
     let l = c.in-Some.ensures.reads in
