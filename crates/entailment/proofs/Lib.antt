@@ -1,3 +1,4 @@
 pub mod Basics
 pub mod Names
 pub mod Within
+pub mod Soundness
