@@ -3,3 +3,4 @@ pub mod Names
 pub mod Within
 pub mod Soundness
 pub mod Canonical
+pub mod Completeness

@@ -57,35 +57,35 @@ module _ (more : List Term) (w : World (thirty ++ more)) (g : ℕ → ℕ) (thin
   abbrev Concluded : Row → (ℕ → ℕ) → Type 0
   Concluded row σ = True w f (reading σ (conclusion row))
 
-  d2-true : RdfWorld w → (σ : ℕ → ℕ) → Premises RdfD2 σ → Concluded RdfD2 σ
+  d2_true : RdfWorld w → (σ : ℕ → ℕ) → Premises RdfD2 σ → Concluded RdfD2 σ
   unfolding thirty rdf rdfs
-  d2-true i σ h = made _ _ _ (i.property_is_typed (f (σ 0)) h.0.0)
+  d2_true i σ h = made _ _ _ (i.property_is_typed (f (σ 0)) h.0.0)
 
-  row-true-rdf : RdfWorld w → (row : Row) → T (uses Rdf row) → (σ : ℕ → ℕ) → Premises row σ → Concluded row σ
-  row-true-rdf i RdfD2 u σ h = d2-true i σ h
-  row-true-rdf i row u σ h = absurd u
+  row_true_rdf : RdfWorld w → (row : Row) → T (uses Rdf row) → (σ : ℕ → ℕ) → Premises row σ → Concluded row σ
+  row_true_rdf i RdfD2 u σ h = d2_true i σ h
+  row_true_rdf i row u σ h = absurd u
 
-  row-true-rdfs : RdfWorld w → RdfsWorld w → (row : Row) (σ : ℕ → ℕ) → Premises row σ → Concluded row σ
+  row_true_rdfs : RdfWorld w → RdfsWorld w → (row : Row) (σ : ℕ → ℕ) → Premises row σ → Concluded row σ
   unfolding thirty rdf rdfs
-  row-true-rdfs i j RdfD2 σ h = d2-true i σ h
-  row-true-rdfs i j Rdfs2 σ h = made _ _ _ (j.domains _ _ _ _ h.0.1 h.1.0.1)
-  row-true-rdfs i j Rdfs3 σ h = made _ _ _ (j.ranges _ _ _ _ h.0.1 h.1.0.1)
-  row-true-rdfs i j Rdfs4a σ h = made _ _ _ (j.all_resources _ (meanings_are_things (σ 5)))
-  row-true-rdfs i j Rdfs4b σ h = made _ _ _ (j.all_resources _ (meanings_are_things (σ 6)))
-  row-true-rdfs i j Rdfs5 σ h = made _ _ _ (j.sp_transitive _ _ _ h.0.1 h.1.0.1)
-  row-true-rdfs i j Rdfs6 σ h = made _ _ _ (j.sp_reflexive _ (i.typed_is_property _ h.0.1))
-  row-true-rdfs i j Rdfs7 σ h = made _ _ _ (j.sp_pairs _ _ _ _ h.0.1 h.1.0.1)
-  row-true-rdfs i j Rdfs8 σ h = made _ _ _ (j.classes_in_resource _ h.0.1)
-  row-true-rdfs i j Rdfs9 σ h = made _ _ _ (j.sc_members _ _ _ h.0.1 h.1.0.1)
-  row-true-rdfs i j Rdfs10 σ h = made _ _ _ (j.sc_reflexive _ h.0.1)
-  row-true-rdfs i j Rdfs11 σ h = made _ _ _ (j.sc_transitive _ _ _ h.0.1 h.1.0.1)
-  row-true-rdfs i j Rdfs12 σ h = made _ _ _ (j.memberships_under_member _ h.0.1)
-  row-true-rdfs i j Rdfs13 σ h = made _ _ _ (j.datatypes_in_literal _ h.0.1)
+  row_true_rdfs i j RdfD2 σ h = d2_true i σ h
+  row_true_rdfs i j Rdfs2 σ h = made _ _ _ (j.domains _ _ _ _ h.0.1 h.1.0.1)
+  row_true_rdfs i j Rdfs3 σ h = made _ _ _ (j.ranges _ _ _ _ h.0.1 h.1.0.1)
+  row_true_rdfs i j Rdfs4a σ h = made _ _ _ (j.all_resources _ (meanings_are_things (σ 5)))
+  row_true_rdfs i j Rdfs4b σ h = made _ _ _ (j.all_resources _ (meanings_are_things (σ 6)))
+  row_true_rdfs i j Rdfs5 σ h = made _ _ _ (j.sp_transitive _ _ _ h.0.1 h.1.0.1)
+  row_true_rdfs i j Rdfs6 σ h = made _ _ _ (j.sp_reflexive _ (i.typed_is_property _ h.0.1))
+  row_true_rdfs i j Rdfs7 σ h = made _ _ _ (j.sp_pairs _ _ _ _ h.0.1 h.1.0.1)
+  row_true_rdfs i j Rdfs8 σ h = made _ _ _ (j.classes_in_resource _ h.0.1)
+  row_true_rdfs i j Rdfs9 σ h = made _ _ _ (j.sc_members _ _ _ h.0.1 h.1.0.1)
+  row_true_rdfs i j Rdfs10 σ h = made _ _ _ (j.sc_reflexive _ h.0.1)
+  row_true_rdfs i j Rdfs11 σ h = made _ _ _ (j.sc_transitive _ _ _ h.0.1 h.1.0.1)
+  row_true_rdfs i j Rdfs12 σ h = made _ _ _ (j.memberships_under_member _ h.0.1)
+  row_true_rdfs i j Rdfs13 σ h = made _ _ _ (j.datatypes_in_literal _ h.0.1)
 
-  row-true : (r : Regime) → WorldOf r w → (row : Row) → T (uses r row) → (σ : ℕ → ℕ) → Premises row σ → Concluded row σ
-  row-true Simple o row u σ h = absurd u
-  row-true Rdf o row u σ h = row-true-rdf o row u σ h
-  row-true Rdfs o row u σ h = row-true-rdfs o.0 o.1 row σ h
+  row_true : (r : Regime) → WorldOf r w → (row : Row) → T (uses r row) → (σ : ℕ → ℕ) → Premises row σ → Concluded row σ
+  row_true Simple o row u σ h = absurd u
+  row_true Rdf o row u σ h = row_true_rdf o row u σ h
+  row_true Rdfs o row u σ h = row_true_rdfs o.0 o.1 row σ h
 
   -- the true triples, as a set
   abbrev true_ones : Graph
@@ -105,7 +105,7 @@ module _ (more : List Term) (w : World (thirty ++ more)) (g : ℕ → ℕ) (thin
       record {
         starts = λ t m. into t (all-has (True w f) (start r ts) t (all_both (Named ts) (TrueOfNames w) (True w f) from_names (start r ts) (start-named more r) (start-true r o)) m);
         keeps = λ t m. into t (all-has (True w f) kept t k m);
-        rows = λ row u σ h. into (reading σ (conclusion row)) (row-true r o row u σ (All-weaker (λ q. T (true_ones (reading σ q))) (λ q. True w f (reading σ q)) (λ q x. out (reading σ q) x) (premises row) h));
+        rows = λ row u σ h. into (reading σ (conclusion row)) (row_true r o row u σ (All-weaker (λ q. T (true_ones (reading σ q))) (λ q. True w f (reading σ q)) (λ q x. out (reading σ q) x) (premises row) h));
       }
 
   closure-true : (r : Regime) (kept : List Triple) → WorldOf r w → AllByRecursion (True w f) kept → (t : Triple) → InClosure r ts kept t → True w f t
