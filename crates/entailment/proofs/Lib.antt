@@ -4,3 +4,4 @@ pub mod Within
 pub mod Soundness
 pub mod Canonical
 pub mod Completeness
+pub mod Equivalence
