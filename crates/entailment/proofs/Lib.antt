@@ -1,2 +1,4 @@
 pub mod Basics
 pub mod Names
+pub mod Within
+pub mod Growing
