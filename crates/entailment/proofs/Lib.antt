@@ -3,3 +3,8 @@ pub mod Names
 pub mod Within
 pub mod Growing
 pub mod Counting
+pub mod Deriving
+pub mod SaturationSearch
+pub mod SaturationBound
+pub mod SaturationRows
+pub mod Saturation
