@@ -5,3 +5,10 @@ pub mod Soundness
 pub mod Canonical
 pub mod Completeness
 pub mod Equivalence
+pub mod Growing
+pub mod Counting
+pub mod Deriving
+pub mod SaturationSearch
+pub mod SaturationBound
+pub mod SaturationRows
+pub mod Saturation
