@@ -5,3 +5,6 @@ pub mod Soundness
 pub mod Canonical
 pub mod Completeness
 pub mod Equivalence
+pub mod Among
+pub mod Matching
+pub mod ClosedLists
