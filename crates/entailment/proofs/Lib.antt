@@ -8,3 +8,4 @@ pub mod Equivalence
 pub mod Among
 pub mod Matching
 pub mod ClosedLists
+pub mod Lines
