@@ -9,3 +9,4 @@ pub mod Among
 pub mod Matching
 pub mod ClosedLists
 pub mod Lines
+pub mod Certificates
