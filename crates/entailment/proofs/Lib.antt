@@ -10,3 +10,4 @@ pub mod Matching
 pub mod ClosedLists
 pub mod Lines
 pub mod Certificates
+pub mod ExampleCertificates
