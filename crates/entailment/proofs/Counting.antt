@@ -1,18 +1,18 @@
 -- Lists of different triples, and how many triples a set has.
-use Rattle.std.proofs.Common.{◌≡◌, ℕ, zero, suc, ◌+◌, ◌<◌, ◌≤◌, Bool, true, false, cond, not, ◌||◌, T, List, [], ◌∷◌, length, sym, refl, subst, ⊎_elim, add-le-add, le_refl, arith}
+use Rattle.std.proofs.Common.{◌≡◌, ℕ, zero, suc, ◌+◌, ◌<◌, ◌≤◌, Bool, true, false, cond, not, T, List, [], ◌∷◌, length, refl, add-le-add, le_refl, arith}
 use Rattle.std.specs.List.{AllByRecursion}
 use Rattle.std.specs.Bool.{passes}
 use Rattle.std.proofs.ByRecursion.{All-weaker}
 use Rattle.std.proofs.Math.Dec.{T_not, not_T}
-use Rattle.std.proofs.lemmas.Bool.{or_cases}
 use Rattle.triples.specs.declared.triple.Triple.{Triple}
 use Rattle.triples.specs.Codes.{width, codes, code_of, triple_of, Inside}
-use Rattle.triples.specs.Sets.{Graph, same, among, tally, size}
-use Rattle.triples.proofs.Triples.{same_true, inside-more, code_of-triple}
+use Rattle.triples.specs.Sets.{Graph, among, tally, size}
+use Rattle.triples.proofs.Triples.{inside-more, code_of-triple}
 use Rattle.triples.proofs.Sizes.{size-empty, size-adding}
 use Rattle.entailment.specs.Closure.{InClosure, different}
 use Rattle.entailment.specs.Laws.{ExceedsBySize}
 use Rattle.entailment.proofs.Basics.{and_left, and_right, and_both}
+use Rattle.entailment.proofs.Among.{among-all}
 use Rattle.entailment.proofs.Within.{stays_within_terms}
 
 pub passed : (b : Bool) → T b → b ≡ true
@@ -22,12 +22,6 @@ passed false h = absurd h
 pub failed : (b : Bool) → (T b → ⊥) → b ≡ false
 failed true h = absurd (h tt)
 failed false h = refl
-
--- what holds of each triple of a list holds of each triple in its set
-pub among-all : (P : Triple → Type 0) (l : List Triple) → AllByRecursion P l → (t : Triple) → T (among l t) → P t
-among-all P [] h t m = absurd m
-among-all P (u ∷ l) h t m =
-    ⊎_elim (λ e. subst P (sym (same_true t u e)) h.0) (λ e. among-all P l h.1 t (passes (among l t) e)) (or_cases (same t u) (among l t) (passed (same t u || among l t) m))
 
 pub first_is_new : (t : Triple) (l : List Triple) → T (different (t ∷ l)) → T (among l t) → ⊥
 first_is_new t l d = T_not (among l t) (and_left (not (among l t)) (different l) d)

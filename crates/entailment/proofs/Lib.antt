@@ -8,7 +8,14 @@ pub mod Equivalence
 pub mod Growing
 pub mod Counting
 pub mod Deriving
+pub mod EachRow
 pub mod SaturationSearch
 pub mod SaturationBound
 pub mod SaturationRows
 pub mod Saturation
+pub mod Among
+pub mod Matching
+pub mod ClosedLists
+pub mod Lines
+pub mod Certificates
+pub mod ExampleCertificates

@@ -16,11 +16,13 @@ use Rattle.entailment.specs.Entailment.{OfTerms}
 use Rattle.entailment.specs.Laws.{ClosureExists, DerivationsAreLeast}
 use Rattle.entailment.proofs.Basics.{and_left, and_right, and_both, all-by_test}
 use Rattle.entailment.proofs.Within.{stays_within_terms}
-use Rattle.entailment.proofs.Counting.{among-all, one_more_differs}
+use Rattle.entailment.proofs.Counting.{one_more_differs}
+use Rattle.entailment.proofs.Among.{among-all}
+use Rattle.entailment.proofs.EachRow.{each_row}
 use Rattle.entailment.proofs.Deriving.{derived-in_closure}
 use Rattle.entailment.proofs.SaturationSearch.{decides, one_or_all, cut, assignment_or_none}
 use Rattle.entailment.proofs.SaturationBound.{length-le_different}
-use Rattle.entailment.proofs.SaturationRows.{each_row, holds, adds, cut-adds, at_most, at-at_most, test-by_all}
+use Rattle.entailment.proofs.SaturationRows.{holds, adds, cut-adds, at_most, at-at_most, test-by_all}
 
 module _ (r : Regime) (ts : List Term) (kept : List Triple) (within : (t : Triple) → Derives r ts kept t → OfTerms ts t) where
   abbrev Derived : Triple → Type 0

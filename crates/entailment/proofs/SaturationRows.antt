@@ -1,30 +1,14 @@
 -- Whether a row adds a triple to a list, as a test, and that finitely many assignments decide it.
-use Rattle.std.proofs.Common.{◌≡◌, ℕ, ◌<◌, min, Bool, not, ◌&&◌, T, List, [], ◌∷◌, refl, lit<, arith}
-use Rattle.std.specs.List.{ContainsAt as Has, AllByRecursion, list_all}
+use Rattle.std.proofs.Common.{◌≡◌, ℕ, ◌<◌, min, Bool, not, ◌&&◌, T, List, [], ◌∷◌, refl, arith}
+use Rattle.std.specs.List.{AllByRecursion, list_all}
 use Rattle.triples.specs.declared.triple.Triple.{Triple}
 use Rattle.triples.specs.Sets.{among}
 use Rattle.entailment.specs.declared.regime.Regime.{Regime}
 use Rattle.entailment.specs.declared.regime.Row.{Row}
-use Rattle.entailment.specs.declared.regime.Row.TheVariants.{RdfD2, Rdfs2, Rdfs3, Rdfs4a, Rdfs4b, Rdfs5, Rdfs6, Rdfs7, Rdfs8, Rdfs9, Rdfs10, Rdfs11, Rdfs12, Rdfs13}
-use Rattle.entailment.specs.Rows.{Slot, the, letter, Form, at, reading, premises, conclusion, rows, uses}
+use Rattle.entailment.specs.declared.regime.Row.TheVariants.{RdfD2}
+use Rattle.entailment.specs.Rows.{Slot, the, letter, Form, at, reading, premises, conclusion, uses}
 use Rattle.entailment.proofs.Basics.{and_both}
 use Rattle.entailment.proofs.SaturationSearch.{cut}
-
-pub each_row : (row : Row) → Has rows row
-each_row RdfD2 = (0, lit< tt, λ d. refl)
-each_row Rdfs2 = (1, lit< tt, λ d. refl)
-each_row Rdfs3 = (2, lit< tt, λ d. refl)
-each_row Rdfs4a = (3, lit< tt, λ d. refl)
-each_row Rdfs4b = (4, lit< tt, λ d. refl)
-each_row Rdfs5 = (5, lit< tt, λ d. refl)
-each_row Rdfs6 = (6, lit< tt, λ d. refl)
-each_row Rdfs7 = (7, lit< tt, λ d. refl)
-each_row Rdfs8 = (8, lit< tt, λ d. refl)
-each_row Rdfs9 = (9, lit< tt, λ d. refl)
-each_row Rdfs10 = (10, lit< tt, λ d. refl)
-each_row Rdfs11 = (11, lit< tt, λ d. refl)
-each_row Rdfs12 = (12, lit< tt, λ d. refl)
-each_row Rdfs13 = (13, lit< tt, λ d. refl)
 
 abbrev pub holds : List Triple → (ℕ → ℕ) → Form → Bool
 holds l σ f = among l (reading σ f)

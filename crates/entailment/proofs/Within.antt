@@ -49,13 +49,13 @@ module _ (more : List Term) where
   row-within Rdfs13 σ h = (h.0.0, fixed #subClassOf tt, fixed #Literal tt)
 
   -- the triples of terms, as a set
-  abbrev of_terms : Graph
+  abbrev pub of_terms : Graph
   of_terms t = ltb t.subject (length ts) && (ltb t.predicate (length ts) && ltb t.object (length ts))
 
   into : (t : Triple) → OfTerms ts t → T (of_terms t)
   into t h = and_both _ _ (lt→ltb t.subject (length ts) h.0) (and_both _ _ (lt→ltb t.predicate (length ts) h.1) (lt→ltb t.object (length ts) h.2))
 
-  out : (t : Triple) → T (of_terms t) → OfTerms ts t
+  pub out : (t : Triple) → T (of_terms t) → OfTerms ts t
   out t h =
       let s = ltb t.subject (length ts) in
       let p = ltb t.predicate (length ts) in

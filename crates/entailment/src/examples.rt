@@ -1,4 +1,5 @@
-// The theorems on the closure and on worlds. Each function's contract is a theorem; the statements are in specs/.
+// The examples. The function's contract is a theorem, and its body is empty, so the must-fail edit for this file is one of
+// specs/Examples, a verdict.
 ghost use Rattle.entailment.specs.Examples.{ExamplesHold};
 
 // The examples of the halls have the verdicts that the reference gives them.
