@@ -1,5 +1,5 @@
 -- An escape letter and a raw text have one meaning each. Assumes nothing.
-use Rattle.std.proofs.Common.{◌≡◌, ℕ, true, cond, eqb, List, ◌∷◌, sym, refl, ap, ◌∙◌, subst}
+use Rattle.std.proofs.Common.{◌≡◌, ℕ, true, cond, eqb, List, ◌∷◌, sym, refl, ap, ◌∙◌}
 use Rattle.grammar.specs.Regular.{inside}
 use Rattle.grammar.specs.Productions.{escape_letter}
 use Rattle.spelling.specs.Names.{Escape, tab, backspace, newline, return, feed, quote, apostrophe, backslash, Means, none, plain, escape}
@@ -21,9 +21,6 @@ escape-meant l c backslash = refl
 
 pub escape-same : (l c d : ℕ) → Escape l c → Escape l d → c ≡ d
 escape-same l c d x y = escape-meant l c x ∙ sym (escape-meant l d y)
-
-pub escape-at : {l k c : ℕ} → Escape k c → k ≡ l → Escape l c
-escape-at {c} x e = subst (λ m. Escape m c) e x
 
 -- the letters of Escape are those of the grammar
 pub escape_in : (l c : ℕ) → Escape l c → inside escape_letter l ≡ true
