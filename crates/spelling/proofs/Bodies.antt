@@ -1,6 +1,6 @@
 -- What stands between the quotes of a literal, piece by piece, with its lexical form. Assumes nothing.
-use Rattle.std.proofs.Common.{◌≡◌, ℕ, true, eqb, List, [], ◌∷◌, ◌++◌, sym, refl, ap, ◌∙◌, subst, inl, inr}
-use Rattle.std.proofs.lemmas.Bool.{cond-false, ne_eqb}
+use Rattle.std.proofs.Common.{◌≡◌, ℕ, true, List, [], ◌∷◌, ◌++◌, sym, refl, ap, ◌∙◌, subst, inl, inr, arith}
+use Rattle.std.proofs.lemmas.Bool.Decides.{nat_tests}
 use Rattle.grammar.specs.Regular.{inside, Expr, one, ◌or◌, Star, stop, more, Spells}
 use Rattle.grammar.specs.Productions.{part, string_char, escape_letter, ECHAR, UCHAR}
 use Rattle.spelling.specs.Names.{Escape, tab, backspace, newline, return, feed, quote, apostrophe, backslash, Means, none, plain, escape, escaped_byte, escaped}
@@ -44,8 +44,11 @@ body-from u v h m = let (w, b) = body_of u h in subst (Body u) (one-meaning u w 
 
 escaped-char : (c : ℕ) → inside string_char c ≡ true → escaped_byte c ≡ c ∷ []
 escaped-char c h =
-    cond-false (eqb c 10) _ _ (ne_eqb c 10 (apart string_char c 10 h refl)) ∙ cond-false (eqb c 13) _ _ (ne_eqb c 13 (apart string_char c 13 h refl))
-    ∙ cond-false (eqb c 34) _ _ (ne_eqb c 34 (apart string_char c 34 h refl)) ∙ cond-false (eqb c 92) _ _ (ne_eqb c 92 (apart string_char c 92 h refl))
+    let lf = apart string_char c 10 h refl in
+    let cr = apart string_char c 13 h refl in
+    let quote = apart string_char c 34 h refl in
+    let backslash = apart string_char c 92 h refl in
+    grind (arith, nat_tests)
 
 escaped_code : (l c : ℕ) (u v : List ℕ) → Escape l c → Body u v → Body (escaped_byte c ++ u) (c ∷ v)
 escaped_code l c u v tab b = char refl b

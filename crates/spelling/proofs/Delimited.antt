@@ -30,7 +30,7 @@ byte_in b = let h = le-leb b b (omega arith) in or_left _ _ (and_from _ _ h h)
 
 -- a byte of a class is not one that the class lacks
 pub apart : (rs : List Range) (c b : ℕ) → inside rs c ≡ true → inside rs b ≡ false → c ≡ b → ⊥
-apart rs c b h k e = both_ways (inside rs b) k (subst (λ x. inside rs x ≡ true) e h)
+apart rs c b h k e = cc
 
 pub differ : (a b : ℕ) (s t : List ℕ) → eqb a b ≡ false → a ∷ s ≡ b ∷ t → ⊥
 differ a b s t n e = eqb-false a b n cc

@@ -1,6 +1,7 @@
 -- One byte of a lexical form after another. Assumes nothing.
 use Rattle.std.proofs.Common.{◌≡◌, ℕ, ◌-◌, ◌≤◌, ◌<◌, List, [], ◌∷◌, ◌++◌, length, get_or, take, drop, sym, refl, ap, ◌∙◌, subst, arith}
 use Rattle.std.proofs.lemmas.List.{drop_more, take_rest}
+use Rattle.std.proofs.lemmas.Slice.{first_rest}
 use Rattle.grammar.specs.Productions.{string_char}
 use Rattle.spelling.specs.Names.{Escape}
 use Rattle.spelling.specs.Writing.{Splits, as_is, as_escape}
@@ -8,17 +9,14 @@ use Rattle.spelling.proofs.Delimited.{apart, differ}
 use Rattle.spelling.proofs.Meanings.{escape-same}
 use Rattle.spelling.proofs.Bodies.{Body, ended, char, coded}
 
--- the first byte of a text, and what follows it as a slice pattern has it
-pub plain_front : (t : List ℕ) → 0 < length t → t ≡ get_or t 0 0 ∷ take (length t - 1) (drop 1 t)
-plain_front t h = drop_more t 0 0 h ∙ ap (λ s. get_or t 0 0 ∷ s) (sym (take_rest t 1))
-
+-- the first two bytes of a text, and what follows them as a slice pattern has it
 escape_front : (t : List ℕ) → 2 ≤ length t → t ≡ get_or t 0 0 ∷ get_or t 1 0 ∷ take (length t - 2) (drop 2 t)
 escape_front t h =
     drop_more t 0 0 (omega arith) ∙ ap (λ s. get_or t 0 0 ∷ s) (drop_more t 1 0 (omega arith) ∙ ap (λ s. get_or t 1 0 ∷ s) (sym (take_rest t 2)))
 
 pub plain_first : (t : List ℕ) → 0 < length t → (get_or t 0 0 ≡ 92 → ⊥) → (get_or t 0 0 ≡ 34 → ⊥) → Splits t (get_or t 0 0) (take (length t - 1) (drop 1 t)) × ((w : List ℕ) → t ≡ 34 ∷ w → ⊥)
 plain_first t h n q =
-    let e = plain_front t h in
+    let e = first_rest t 0 h in
     (subst (λ s. Splits s (get_or t 0 0) (take (length t - 1) (drop 1 t))) (sym e) (as_is n), λ w k. q cc)
 
 pub escape_first : (t : List ℕ) (c : ℕ) → 2 ≤ length t → get_or t 0 0 ≡ 92 → Escape (get_or t 1 0) c → Splits t c (take (length t - 2) (drop 2 t)) × ((w : List ℕ) → t ≡ 34 ∷ w → ⊥)

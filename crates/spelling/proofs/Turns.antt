@@ -35,15 +35,10 @@ module _ (rest written : List ℕ) (n : Name) (l : Halfway rest written n) where
     step = body-step rest l.tail after l.raw l.lexical c more l.split s l.body
 
     more-front : canonical n ≡ (written ++ escaped_byte c) ++ (escaped step.lexical ++ 34 ∷ l.tail)
-    more-front =
-        l.front
-        ∙ ap (λ v. written ++ (escaped v ++ 34 ∷ l.tail)) step.first
-        ∙ ap (λ v. written ++ v) (append_assoc (escaped_byte c) (escaped step.lexical) (34 ∷ l.tail))
-        ∙ sym (append_assoc written (escaped_byte c) _)
+    more-front = l.front ∙ ap (λ v. written ++ (escaped v ++ 34 ∷ l.tail)) step.first ∙ simp append_assoc
 
     pub too_long : (m : ℕ) → m < length written + length (escaped_byte c) → m < length (canonical n)
-    too_long m q =
-        omega (arith, ap length more-front, length-append (written ++ escaped_byte c) (escaped step.lexical ++ 34 ∷ l.tail), length-append written (escaped_byte c))
+    too_long m q = omega (arith, simp length-append at (ap length more-front))
 
     pub turned : (now : List ℕ) → now ≡ written ++ escaped_byte c → Halfway after now n
     turned now w = record {

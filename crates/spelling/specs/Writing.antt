@@ -1,5 +1,5 @@
 -- Inner devices, for the contracts of the functions that write a spelling. Assumes nothing.
-use Rattle.std.specs.Prelude.{◌≡◌, ℕ, ◌+◌, ◌<◌, ◌≤◌, List, ◌∷◌, ◌++◌, length, take, drop, Some, None, Ok, Err, Option, Result, MatchOption, ◌≢◌}
+use Rattle.std.specs.Prelude.{◌≡◌, ℕ, ◌+◌, ◌<◌, ◌≤◌, List, ◌∷◌, ◌++◌, length, take, drop, Some, None, Ok, Err, Option, Result, MatchOption, MatchResult, ◌≢◌}
 use Rattle.grammar.specs.Readings.{Kind}
 use Rattle.spelling.specs.declared.canonical.TooLong.{TooLong}
 use Rattle.spelling.specs.Names.{Escape, Name, Denotes, canonical, longest}
@@ -18,6 +18,10 @@ with_word xs at word = take at xs ++ (word ++ drop (at + length word) xs)
 abbrev pub Spelled : Name → List ℕ → List ℕ → Option ℕ → Type 0
 Spelled n before after r =
     MatchOption r (longest < length (canonical n)) (λ e. (e ≡ length (canonical n)) × (e ≤ longest) × (after ≡ canonical n ++ drop e before))
+
+-- what is written for a name: its canonical spelling, or a refusal where that is too long
+abbrev pub WroteName : Name → Result (List ℕ) TooLong → Type 0
+WroteName n r = MatchResult r (λ w. w ≡ canonical n) (λ _. longest < length (canonical n))
 
 -- what is written for a token of the kind with these bytes: the canonical spelling of its name, or none where it denotes no
 -- name, or a refusal where the spelling is too long

@@ -1,8 +1,8 @@
 // Writes the canonical spelling of a token's text.
-ghost use Rattle.std.specs.Prelude.{◌≡◌, ℕ, ◌≢◌, ◌<◌, List, ◌∷◌, length, MatchOption, MatchResult};
+ghost use Rattle.std.specs.Prelude.{◌≡◌, ℕ, ◌≢◌, List, ◌∷◌, MatchOption};
 ghost use Rattle.grammar.specs.Readings.{an_iri, a_literal};
-ghost use Rattle.spelling.specs.Names.{Escape, Name, Denotes, canonical, longest};
-ghost use Rattle.spelling.specs.Writing.{Splits};
+ghost use Rattle.spelling.specs.Names.{Escape, Name, Denotes};
+ghost use Rattle.spelling.specs.Writing.{Splits, WroteName};
 
 use crate::canonical::TooLong;
 use crate::writer::Writer;
@@ -22,8 +22,8 @@ fn decoded(letter: u8) -> Option<u8>
     }
 }
 
-// The byte of a lexical form that the text begins with, itself or as an escape, and what follows it; none at a quote.
-fn first_byte(text: &[u8]) -> Option<(u8, &[u8])>
+// The next byte of a lexical form, itself or as an escape, and what follows it; none at a quote.
+fn next_byte(text: &[u8]) -> Option<(u8, &[u8])>
     ensures { MatchOption result ((c : ℕ) (w : List ℕ) → Splits text.now c w → text.now ≡ 34 ∷ w) (λ p. Splits text.now p.0 p.1.now × ((w : List ℕ) → text.now ≢ 34 ∷ w)) }
 {
     match text {
@@ -35,7 +35,7 @@ fn first_byte(text: &[u8]) -> Option<(u8, &[u8])>
 
 // The canonical spelling of an IRI, which is the text as it is.
 pub(crate) fn write_iri(text: &[u8]) -> Result<Writer, TooLong>
-    ensures { (n : Name) → Denotes an_iri text.now n → MatchResult result (λ w. w ≡ canonical n) (λ _. longest < length (canonical n)) }
+    ensures { (n : Name) → Denotes an_iri text.now n → WroteName n result }
 {
     let mut writer = Writer::new();
     writer.copy(text)?;
@@ -45,7 +45,7 @@ pub(crate) fn write_iri(text: &[u8]) -> Result<Writer, TooLong>
 // The canonical spelling of a literal: the bytes up to the first quote that is no part of an escape are read and put
 // one by one, and the rest is copied.
 pub(crate) fn write_literal(text: &[u8]) -> Result<Writer, TooLong>
-    ensures { (n : Name) → Denotes a_literal text.now n → MatchResult result (λ w. w ≡ canonical n) (λ _. longest < length (canonical n)) }
+    ensures { (n : Name) → Denotes a_literal text.now n → WroteName n result }
 {
     let mut writer = Writer::new();
     let [_, rest @ ..] = text else {
@@ -53,7 +53,7 @@ pub(crate) fn write_literal(text: &[u8]) -> Result<Writer, TooLong>
     };
     let mut rest = rest;
     writer.copy(b"\"")?;
-    while let Some((byte, after)) = first_byte(rest) {
+    while let Some((byte, after)) = next_byte(rest) {
         writer.put(byte)?;
         rest = after;
     }

@@ -1,12 +1,12 @@
 use Rattle.std.proofs.Common.{sym, ◌∙◌, arith, length, length-append, ap}
 use Rattle.std.proofs.lemmas.Result.{err_from_is_err_and}
-use Rattle.spelling.proofs.Pieces.{plain_front}
+use Rattle.std.proofs.lemmas.Slice.{first_rest}
 use Rattle.spelling.proofs.Turns.{first-quote, too_long, turned, closing-quote}
 use Rattle.spelling.proofs.text.write_literal.Goals as goal
 
 pub loop-byte-init : goal.loop-byte-init
 loop-byte-init c = λ n d.
-    rw (c.in_ok-copy.ensures.written, c.new-writer.ensures) (first-quote _ c.args.text.now _ n (plain_front c.args.text.now (omega arith)) d)
+    rw (c.in_ok-copy.ensures.written, c.new-writer.ensures) (first-quote _ c.args.text.now _ n (first_rest c.args.text.now 0 (omega arith)) d)
 
 pub returns-in_err-put : goal.returns-in_err-put
 returns-in_err-put c = λ n d.
@@ -22,9 +22,9 @@ loop-byte-preserved c = λ n d.
 pub returns-in_err-copy-2 : goal.returns-in_err-copy-2
 returns-in_err-copy-2 c = λ n d.
     let e = err_from_is_err_and c.from_residual-in_err-copy-2.result c.from_residual-in_err-copy-2.ensures.1 in
-    let q = closing-quote _ _ n (c.loop-byte.invariant n d) c.in_default-first_byte.ensures in
+    let q = closing-quote _ _ n (c.loop-byte.invariant n d) c.in_default-next_byte.ensures in
     rw e.1 (omega (arith, c.in_err-copy-2.ensures.fits, simp length-append at (ap length q)))
 
 pub returns : goal.returns
 returns c = λ n d.
-    c.in_ok-copy-2.ensures.written ∙ sym (closing-quote _ _ n (c.loop-byte.invariant n d) c.in_default-first_byte.ensures)
+    c.in_ok-copy-2.ensures.written ∙ sym (closing-quote _ _ n (c.loop-byte.invariant n d) c.in_default-next_byte.ensures)

@@ -1,6 +1,6 @@
 use Rattle.std.proofs.Common.{arith}
 use Rattle.spelling.proofs.Pieces.{plain_first, escape_first}
-use Rattle.spelling.proofs.text.first_byte.Goals as goal
+use Rattle.spelling.proofs.text.next_byte.Goals as goal
 
 pub returns-in_ok-decoded-in-92 : goal.returns-in_ok-decoded-in-92
 returns-in_ok-decoded-in-92 c =
