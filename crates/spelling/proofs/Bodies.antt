@@ -19,7 +19,7 @@ pub body_of : (u : List ℕ) → Star (Spells string-piece) u → (v : List ℕ)
 body_of u stop = ([], ended)
 body_of u (more s t q (inl (c, e, h)) k) =
     let (v, b) = body_of t k in
-    (c ∷ v, subst (λ l. Body l (c ∷ v)) (sym (q ∙ ap (λ l. l ++ t) e)) (char h b))
+    (c ∷ v, rw (q, e) (char h b))
 body_of u (more s t q (inr (inl h)) k) =
     let (v, b) = body_of t k in
     let (r, e, (l, f, g)) = first_byte 92 (one escape_letter) s h in
@@ -40,7 +40,7 @@ body_means u v (coded {u = u₁} {v = v₁} x b) = escape x (body_means u₁ v�
 
 -- the pieces of the grammar with a meaning
 pub body-from : (u v : List ℕ) → Star (Spells string-piece) u → Means u v → Body u v
-body-from u v h m = let (w, b) = body_of u h in subst (Body u) (one-meaning u w v (body_means u w b) m) b
+body-from u v h m = let (w, b) = body_of u h in rw (one-meaning u w v (body_means u w b) m) at b
 
 escaped-char : (c : ℕ) → inside string_char c ≡ true → escaped_byte c ≡ c ∷ []
 escaped-char c h =
@@ -64,7 +64,7 @@ escaped_code l c u v backslash b = coded backslash b
 pub body-again : (u v : List ℕ) → Body u v → Body (escaped v) v
 body-again u v ended = ended
 body-again u v (char {c} {u = u₁} {v = v₁} h b) =
-    subst (λ l. Body (l ++ escaped v₁) (c ∷ v₁)) (sym (escaped-char c h)) (char h (body-again u₁ v₁ b))
+    rw (escaped-char c h) (char h (body-again u₁ v₁ b))
 body-again u v (coded {l} {c} {u = u₁} {v = v₁} x b) = escaped_code l c (escaped v₁) v₁ x (body-again u₁ v₁ b)
 
 -- the first quote that is no part of an escape ends a body
@@ -82,6 +82,6 @@ body-one u v r u' v' r' (coded x b) ended e = absurd (differ 92 34 _ _ refl e)
 body-one u v r u' v' r' (coded x b) (char {c} h b') e = absurd (apart string_char c 92 h refl cc)
 body-one u v r u' v' r' (coded {l} {c} {u = u₁} {v = v₁} x b) (coded {l = m} {c = d} {u = u₂} {v = v₂} y b') e =
     let letter : m ≡ l = cc in
-    let head = escape-same l c d x (subst (λ k. Escape k d) letter y) in
+    let head = escape-same l c d x (rw letter at y) in
     let (tail, rest) = body-one u₁ v₁ r u₂ v₂ r' b b' cc in
     (cc, rest)

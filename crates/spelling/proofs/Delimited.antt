@@ -1,5 +1,5 @@
 -- One byte of a class, and what stands between two given bytes. Assumes nothing.
-use Rattle.std.proofs.Common.{◌≡◌, ℕ, true, false, ◌&&◌, eqb, leb, List, [], ◌∷◌, ◌++◌, sym, refl, ap, ◌∙◌, subst, ⊎_elim, arith}
+use Rattle.std.proofs.Common.{◌≡◌, ℕ, true, false, ◌&&◌, eqb, leb, List, [], ◌∷◌, ◌++◌, refl, ap, ◌∙◌, subst, ⊎_elim, arith}
 use Rattle.std.proofs.lemmas.List.{append_cancel_right}
 use Rattle.std.proofs.lemmas.Bool.{and_from, and_parts, or_cases, or_left, both_ways, leb-true, le-leb, eqb-false}
 use Rattle.grammar.specs.Regular.{Range, to, inside, Expr, ◌then◌, many, Star, Spells}
@@ -53,4 +53,4 @@ pub wrap : (a b : ℕ) (e : Expr) (u : List ℕ) → Star (Spells e) u → Spell
 wrap a b e u h = (a ∷ [], u ++ b ∷ [], refl, (a, refl, byte_in a), (u, b ∷ [], refl, h, (b, refl, byte_in b)))
 
 pub inner : (a b : ℕ) (e : Expr) (u : List ℕ) → Spells (byte a then many e then byte b) (delimited a u b) → Star (Spells e) u
-inner a b e u h = let (w, q, s) = unwrap a b e _ h in subst (Star (Spells e)) (sym (same-inner a b u w q)) s
+inner a b e u h = let (w, q, s) = unwrap a b e _ h in rw (same-inner a b u w q) s

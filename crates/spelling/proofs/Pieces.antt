@@ -28,11 +28,11 @@ escape_first t c h q x =
 pub body-end : (w r u v : List ℕ) → ((c : ℕ) (s : List ℕ) → Splits w c s → w ≡ 34 ∷ s) → w ≡ u ++ 34 ∷ r → Body u v → (u ≡ []) × (v ≡ [])
 body-end w r u v n e ended = (refl, refl)
 body-end w r u v n e (char {c} {u = u₁} h b) =
-    let q = n c (u₁ ++ 34 ∷ r) (subst (λ l. Splits l c (u₁ ++ 34 ∷ r)) (sym e) (as_is (apart string_char c 92 h refl))) in
+    let q = n c (u₁ ++ 34 ∷ r) (rw e (as_is (apart string_char c 92 h refl))) in
     let k : c ≡ 34 = cc in
     absurd (apart string_char c 34 h refl k)
 body-end w r u v n e (coded {l} {c} {u = u₁} x b) =
-    let q = n c (u₁ ++ 34 ∷ r) (subst (λ s. Splits s c (u₁ ++ 34 ∷ r)) (sym e) (as_escape x)) in
+    let q = n c (u₁ ++ 34 ∷ r) (rw e (as_escape x)) in
     absurd (differ 92 34 _ _ refl (sym e ∙ q))
 
 -- after c, the first byte of the lexical form v, the body goes on with t, up to a quote and r
@@ -50,5 +50,5 @@ body-step w r t u v c n e (as_is m) (coded x b) = absurd (m cc)
 body-step w r t u v c n e (as_escape x) (char {c = d} h b) = absurd (apart string_char d 92 h refl cc)
 body-step w r t u v c n e (as_escape {l} x) (coded {l = m} {c = d} {u = u₁} {v = v₁} y b) =
     let letter : m ≡ l = cc in
-    let same = escape-same l c d x (subst (λ k. Escape k d) letter y) in
+    let same = escape-same l c d x (rw letter at y) in
     record { raw = u₁; lexical = v₁; first = cc; split = cc; body = b }
