@@ -37,7 +37,8 @@ fn spelling(token: Token) -> Result<Option<Writer>, TooLong>
 }
 
 // The canonical spelling of the token's name at the start of `out`, and its length. `None` where the token denotes
-// no name. `None` and a refusal leave `out` as it was, and so do the bytes behind a spelling.
+// no name. `None` and a refusal leave `out` as it was, and so do the bytes behind a spelling. No heap here: a buffer of
+// the caller's, and a length.
 #[tactic(auto, using(crate::proofs::Laws::all_read_back, crate::proofs::Laws::all_one_spelling))]
 pub fn spell(token: Token, out: &mut [u8; LONGEST]) -> Result<Option<usize>, TooLong>
     ensures spells { Spelling (kind_of token.entry) (bytes_of token.entry) out.old out.new result }

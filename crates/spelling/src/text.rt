@@ -48,10 +48,9 @@ pub(crate) fn write_literal(text: &[u8]) -> Result<Writer, TooLong>
     ensures { (n : Name) → Denotes a_literal text.now n → WroteName n result }
 {
     let mut writer = Writer::new();
-    let [_, rest @ ..] = text else {
+    let Some((_, mut rest)) = text.split_first() else {
         return Ok(writer); // no literal is empty
     };
-    let mut rest = rest;
     writer.copy(b"\"")?;
     while let Some((byte, after)) = next_byte(rest) {
         writer.put(byte)?;

@@ -7,7 +7,7 @@ use crate::LONGEST;
 use crate::canonical::TooLong;
 use std::marker::Model;
 
-// What is written of a spelling, in memory for the longest one.
+// What is written of a spelling. No heap here: an array with room for the longest one, and how much of it is used.
 #[derive(Drop)]
 pub(crate) struct Writer {
     bytes: [u8; LONGEST],
