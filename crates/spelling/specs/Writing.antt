@@ -1,5 +1,5 @@
 -- Inner devices, for the contracts of the functions that write a spelling. Assumes nothing.
-use Rattle.std.specs.Prelude.{◌≡◌, ℕ, ◌+◌, ◌<◌, ◌≤◌, List, ◌∷◌, ◌++◌, length, take, drop, Some, None, Ok, Err, Option, Result, MatchOption, MatchResult, ◌≢◌}
+use Rattle.std.specs.Prelude.{◌≡◌, ℕ, ◌+◌, ◌<◌, List, ◌∷◌, ◌++◌, length, take, drop, Some, None, Ok, Err, Option, Result, MatchResult, ◌≢◌}
 use Rattle.grammar.specs.Readings.{Kind}
 use Rattle.spelling.specs.declared.canonical.TooLong.{TooLong}
 use Rattle.spelling.specs.Names.{Escape, Name, Denotes, canonical, longest}
@@ -13,11 +13,6 @@ pub data Splits : List ℕ → ℕ → List ℕ → Type 0 where
 -- the buffer with the word written at the offset
 abbrev pub with_word : List ℕ → ℕ → List ℕ → List ℕ
 with_word xs at word = take at xs ++ (word ++ drop (at + length word) xs)
-
--- r is the length of the canonical spelling of n, which the buffer has at its start, or none where it is too long
-abbrev pub Spelled : Name → List ℕ → List ℕ → Option ℕ → Type 0
-Spelled n before after r =
-    MatchOption r (longest < length (canonical n)) (λ e. (e ≡ length (canonical n)) × (e ≤ longest) × (after ≡ canonical n ++ drop e before))
 
 -- what is written for a name: its canonical spelling, or a refusal where that is too long
 abbrev pub WroteName : Name → Result (List ℕ) TooLong → Type 0
