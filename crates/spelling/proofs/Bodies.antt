@@ -1,6 +1,6 @@
 -- What stands between the quotes of a literal, piece by piece, with its lexical form. Assumes nothing.
-use Rattle.std.proofs.Common.{◌≡◌, ℕ, true, eqb, List, [], ◌∷◌, ◌++◌, sym, refl, ap, ◌∙◌, subst, inl, inr}
-use Rattle.std.proofs.lemmas.Bool.{cond-false, ne_eqb}
+use Rattle.std.proofs.Common.{◌≡◌, ℕ, true, List, [], ◌∷◌, ◌++◌, sym, refl, ap, ◌∙◌, subst, inl, inr, arith}
+use Rattle.std.proofs.lemmas.Bool.Decides.{nat_tests}
 use Rattle.grammar.specs.Regular.{inside, Expr, one, ◌or◌, Star, stop, more, Spells}
 use Rattle.grammar.specs.Productions.{part, string_char, escape_letter, ECHAR, UCHAR}
 use Rattle.spelling.specs.Names.{Escape, tab, backspace, newline, return, feed, quote, apostrophe, backslash, Means, none, plain, escape, escaped_byte, escaped}
@@ -19,7 +19,7 @@ pub body_of : (u : List ℕ) → Star (Spells string-piece) u → (v : List ℕ)
 body_of u stop = ([], ended)
 body_of u (more s t q (inl (c, e, h)) k) =
     let (v, b) = body_of t k in
-    (c ∷ v, subst (λ l. Body l (c ∷ v)) (sym (q ∙ ap (λ l. l ++ t) e)) (char h b))
+    (c ∷ v, rw (q, e) (char h b))
 body_of u (more s t q (inr (inl h)) k) =
     let (v, b) = body_of t k in
     let (r, e, (l, f, g)) = first_byte 92 (one escape_letter) s h in
@@ -40,12 +40,15 @@ body_means u v (coded {u = u₁} {v = v₁} x b) = escape x (body_means u₁ v�
 
 -- the pieces of the grammar with a meaning
 pub body-from : (u v : List ℕ) → Star (Spells string-piece) u → Means u v → Body u v
-body-from u v h m = let (w, b) = body_of u h in subst (Body u) (one-meaning u w v (body_means u w b) m) b
+body-from u v h m = let (w, b) = body_of u h in rw (one-meaning u w v (body_means u w b) m) at b
 
 escaped-char : (c : ℕ) → inside string_char c ≡ true → escaped_byte c ≡ c ∷ []
 escaped-char c h =
-    cond-false (eqb c 10) _ _ (ne_eqb c 10 (apart string_char c 10 h refl)) ∙ cond-false (eqb c 13) _ _ (ne_eqb c 13 (apart string_char c 13 h refl))
-    ∙ cond-false (eqb c 34) _ _ (ne_eqb c 34 (apart string_char c 34 h refl)) ∙ cond-false (eqb c 92) _ _ (ne_eqb c 92 (apart string_char c 92 h refl))
+    let lf = apart string_char c 10 h refl in
+    let cr = apart string_char c 13 h refl in
+    let quote = apart string_char c 34 h refl in
+    let backslash = apart string_char c 92 h refl in
+    grind (arith, nat_tests)
 
 escaped_code : (l c : ℕ) (u v : List ℕ) → Escape l c → Body u v → Body (escaped_byte c ++ u) (c ∷ v)
 escaped_code l c u v tab b = char refl b
@@ -61,7 +64,7 @@ escaped_code l c u v backslash b = coded backslash b
 pub body-again : (u v : List ℕ) → Body u v → Body (escaped v) v
 body-again u v ended = ended
 body-again u v (char {c} {u = u₁} {v = v₁} h b) =
-    subst (λ l. Body (l ++ escaped v₁) (c ∷ v₁)) (sym (escaped-char c h)) (char h (body-again u₁ v₁ b))
+    rw (escaped-char c h) (char h (body-again u₁ v₁ b))
 body-again u v (coded {l} {c} {u = u₁} {v = v₁} x b) = escaped_code l c (escaped v₁) v₁ x (body-again u₁ v₁ b)
 
 -- the first quote that is no part of an escape ends a body
@@ -79,6 +82,6 @@ body-one u v r u' v' r' (coded x b) ended e = absurd (differ 92 34 _ _ refl e)
 body-one u v r u' v' r' (coded x b) (char {c} h b') e = absurd (apart string_char c 92 h refl cc)
 body-one u v r u' v' r' (coded {l} {c} {u = u₁} {v = v₁} x b) (coded {l = m} {c = d} {u = u₂} {v = v₂} y b') e =
     let letter : m ≡ l = cc in
-    let head = escape-same l c d x (subst (λ k. Escape k d) letter y) in
+    let head = escape-same l c d x (rw letter at y) in
     let (tail, rest) = body-one u₁ v₁ r u₂ v₂ r' b b' cc in
     (cc, rest)

@@ -1,7 +1,8 @@
 -- One byte of a class, and what stands between two given bytes. Assumes nothing.
-use Rattle.std.proofs.Common.{◌≡◌, ℕ, true, false, ◌&&◌, eqb, leb, List, [], ◌∷◌, ◌++◌, sym, refl, ap, ◌∙◌, subst, ⊎_elim, arith}
+use Rattle.std.proofs.Common.{◌≡◌, ℕ, true, false, eqb, List, [], ◌∷◌, ◌++◌, refl, ap, ◌∙◌, subst, ⊎_elim, ◌⊎◌, arith}
 use Rattle.std.proofs.lemmas.List.{append_cancel_right}
-use Rattle.std.proofs.lemmas.Bool.{and_from, and_parts, or_cases, or_left, both_ways, leb-true, le-leb, eqb-false}
+use Rattle.std.proofs.lemmas.Bool.{eqb-false}
+use Rattle.std.proofs.lemmas.Bool.Decides.{nat_tests}
 use Rattle.grammar.specs.Regular.{Range, to, inside, Expr, ◌then◌, many, Star, Spells}
 use Rattle.grammar.specs.Productions.{byte}
 
@@ -11,26 +12,22 @@ pub data Singles (P : ℕ → Type 0) : List Range → Type 0 where
   no_more : Singles P []
   ◌also◌ : {b : ℕ} {rs : List Range} → P b → Singles P rs → Singles P (to b b ∷ rs)
 
+single : (b c : ℕ) (rs : List Range) → inside (to b b ∷ rs) c ≡ true → (b ≡ c) ⊎ (inside rs c ≡ true)
+single b c rs h = grind (arith, nat_tests)
+
 pub one_of : (P : ℕ → Type 0) (rs : List Range) (c : ℕ) → Singles P rs → inside rs c ≡ true → P c
-one_of P rs c no_more h = absurd (both_ways false refl h)
-one_of P rs c (◌also◌ {b} {rs = rs₁} p t) h =
-    ⊎_elim
-    (λ x.
-    let q = and_parts (leb b c) (leb c b) x in
-    let same : b ≡ c = omega (arith, leb-true b c q.0, leb-true c b q.1) in
-    subst P same p)
-    (one_of P rs₁ c t)
-    (or_cases (leb b c && leb c b) (inside rs₁ c) h)
+one_of P rs c no_more h = cc
+one_of P rs c (◌also◌ {b} {rs = rs₁} p t) h = ⊎_elim (λ e. subst P e p) (one_of P rs₁ c t) (single b c rs₁ h)
 
 pub byte_is : (b c : ℕ) → inside (to b b ∷ []) c ≡ true → c ≡ b
-byte_is b c = one_of (λ x. x ≡ b) (to b b ∷ []) c (refl also no_more)
+byte_is b c h = grind (arith, nat_tests)
 
 byte_in : (b : ℕ) → inside (to b b ∷ []) b ≡ true
-byte_in b = let h = le-leb b b (omega arith) in or_left _ _ (and_from _ _ h h)
+byte_in b = grind (arith, nat_tests)
 
 -- a byte of a class is not one that the class lacks
 pub apart : (rs : List Range) (c b : ℕ) → inside rs c ≡ true → inside rs b ≡ false → c ≡ b → ⊥
-apart rs c b h k e = both_ways (inside rs b) k (subst (λ x. inside rs x ≡ true) e h)
+apart rs c b h k e = cc
 
 pub differ : (a b : ℕ) (s t : List ℕ) → eqb a b ≡ false → a ∷ s ≡ b ∷ t → ⊥
 differ a b s t n e = eqb-false a b n cc
@@ -53,4 +50,4 @@ pub wrap : (a b : ℕ) (e : Expr) (u : List ℕ) → Star (Spells e) u → Spell
 wrap a b e u h = (a ∷ [], u ++ b ∷ [], refl, (a, refl, byte_in a), (u, b ∷ [], refl, h, (b, refl, byte_in b)))
 
 pub inner : (a b : ℕ) (e : Expr) (u : List ℕ) → Spells (byte a then many e then byte b) (delimited a u b) → Star (Spells e) u
-inner a b e u h = let (w, q, s) = unwrap a b e _ h in subst (Star (Spells e)) (sym (same-inner a b u w q)) s
+inner a b e u h = let (w, q, s) = unwrap a b e _ h in rw (same-inner a b u w q) s

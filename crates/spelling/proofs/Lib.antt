@@ -6,5 +6,4 @@ pub mod Tokens
 pub mod Spellings
 pub mod Laws
 pub mod Pieces
-pub mod Words
 pub mod Turns

@@ -51,16 +51,16 @@ pub closed : (t : List ℕ) (n : Name) → Literal t n → Denotes a_literal t n
 closed t n l = closing t l.raw l.lexical l.tail n l.split l.body l.after
 
 pub after_of : (v r : List ℕ) → Spells (suffix part) r → (n : Name) × After v r n
-after_of v r (inl e) = (plain_name v, subst (λ l. After v l (plain_name v)) (sym e) nothing)
+after_of v r (inl e) = (plain_name v, rw e nothing)
 after_of v r (inr (inl h)) =
     let (g, e, _) = first_byte 64 (one letter then many (one letter) then many (byte 45 then one alnum then many (one alnum))) r h in
-    (tagged_name v g, subst (λ l. After v l (tagged_name v g)) (sym e) (tag g (subst (Spells LANGTAG) e h)))
+    (tagged_name v g, subst (λ l. After v l (tagged_name v g)) (sym e) (tag g (rw e at h)))
 after_of v r (inr (inr h)) =
     let (s, e, k) = first_byte 94 (byte 94 then IRIREF part) r h in
     let (w, f, x) = first_byte 94 (IRIREF part) s k in
     let (i, q, _) = unwrap 60 62 (one iri_char or UCHAR part) w x in
     let all : r ≡ 94 ∷ 94 ∷ bracketed i = e ∙ ap (λ l. 94 ∷ l) (f ∙ ap (λ l. 94 ∷ l) q) in
-    (typed_name v i, subst (λ l. After v l (typed_name v i)) (sym all) (datatype i (subst (Spells (IRIREF part)) q x)))
+    (typed_name v i, subst (λ l. After v l (typed_name v i)) (sym all) (datatype i (rw q at x)))
 
 -- what follows tells the three forms apart
 pub one-after : (v r s : List ℕ) (n m : Name) → r ≡ s → After v r n → After v s m → n ≡ m

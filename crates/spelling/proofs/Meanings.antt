@@ -1,29 +1,19 @@
 -- An escape letter and a raw text have one meaning each. Assumes nothing.
-use Rattle.std.proofs.Common.{◌≡◌, ℕ, true, cond, eqb, List, ◌∷◌, sym, refl, ap, ◌∙◌, subst}
+use Rattle.std.proofs.Common.{◌≡◌, ℕ, true, List, ◌∷◌, refl, ap}
 use Rattle.grammar.specs.Regular.{inside}
 use Rattle.grammar.specs.Productions.{escape_letter}
 use Rattle.spelling.specs.Names.{Escape, tab, backspace, newline, return, feed, quote, apostrophe, backslash, Means, none, plain, escape}
 use Rattle.spelling.proofs.Delimited.{no_more, ◌also◌, one_of}
 
--- the byte that the letter stands for, where it is an escape letter
-abbrev meant : ℕ → ℕ
-meant l = cond (eqb l 116) 9 (cond (eqb l 98) 8 (cond (eqb l 110) 10 (cond (eqb l 114) 13 (cond (eqb l 102) 12 l))))
-
-escape-meant : (l c : ℕ) → Escape l c → c ≡ meant l
-escape-meant l c tab = refl
-escape-meant l c backspace = refl
-escape-meant l c newline = refl
-escape-meant l c return = refl
-escape-meant l c feed = refl
-escape-meant l c quote = refl
-escape-meant l c apostrophe = refl
-escape-meant l c backslash = refl
-
 pub escape-same : (l c d : ℕ) → Escape l c → Escape l d → c ≡ d
-escape-same l c d x y = escape-meant l c x ∙ sym (escape-meant l d y)
-
-pub escape-at : {l k c : ℕ} → Escape k c → k ≡ l → Escape l c
-escape-at {c} x e = subst (λ m. Escape m c) e x
+escape-same l c d tab tab = refl
+escape-same l c d backspace backspace = refl
+escape-same l c d newline newline = refl
+escape-same l c d return return = refl
+escape-same l c d feed feed = refl
+escape-same l c d quote quote = refl
+escape-same l c d apostrophe apostrophe = refl
+escape-same l c d backslash backslash = refl
 
 -- the letters of Escape are those of the grammar
 pub escape_in : (l c : ℕ) → Escape l c → inside escape_letter l ≡ true

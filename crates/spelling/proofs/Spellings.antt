@@ -4,7 +4,7 @@ use Rattle.grammar.specs.Readings.{Kind, an_iri, a_label, a_literal}
 use Rattle.spelling.specs.Names.{Name, iri_name, Denotes, by_iri, escaped, canonical}
 use Rattle.spelling.proofs.Delimited.{differ, same-inner}
 use Rattle.spelling.proofs.Bodies.{body-one, body-again}
-use Rattle.spelling.proofs.Literals.{Literal, After, opened, closed, one-after, canonical_is}
+use Rattle.spelling.proofs.Literals.{Literal, opened, closed, one-after, canonical_is}
 use Rattle.spelling.proofs.Tokens.{no_label}
 
 iri_or_literal : (t : List ℕ) (n m : Name) → Denotes an_iri t n → Literal t m → n ≡ m
@@ -15,7 +15,7 @@ literal-name t n m l k =
     let f = l.split in
     let g = k.split in
     let (same, rest) = body-one l.raw l.lexical l.tail k.raw k.lexical k.tail l.body k.body cc in
-    one-after k.lexical l.tail k.tail n m rest (subst (λ v. After v l.tail n) same l.after) k.after
+    one-after k.lexical l.tail k.tail n m rest (rw same at l.after) k.after
 
 pub one_name : (k l : Kind) (t : List ℕ) (n m : Name) → Denotes k t n → Denotes l t m → n ≡ m
 one_name an_iri an_iri t n m (by_iri i e h) (by_iri j f k) = ap iri_name (same-inner 60 62 i j (sym e ∙ f))

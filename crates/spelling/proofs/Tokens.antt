@@ -1,5 +1,5 @@
 -- Each IRI and each literal of the grammar denotes a name, and nothing else does. Assumes nothing.
-use Rattle.std.proofs.Common.{ℕ, List, [], ◌∷◌, ◌++◌, sym, refl, ap, ◌∙◌, subst, inl, inr, append-nil}
+use Rattle.std.proofs.Common.{ℕ, List, [], ◌∷◌, ◌++◌, sym, refl, ap, ◌∙◌, inl, inr, append-nil}
 use Rattle.grammar.specs.Regular.{one, ◌or◌, Spells}
 use Rattle.grammar.specs.Productions.{part, iri_char, UCHAR, IRIREF, literal}
 use Rattle.grammar.specs.Readings.{an_iri, a_label, a_literal}
@@ -11,7 +11,7 @@ use Rattle.spelling.proofs.Literals.{closed, after_of, quoted_then}
 pub denoted-iri : (t : List ℕ) → Spells (IRIREF part) t → (n : Name) × Denotes an_iri t n
 denoted-iri t h =
     let (i, e, _) = unwrap 60 62 (one iri_char or UCHAR part) t h in
-    (iri_name i, by_iri i e (subst (Spells (IRIREF part)) e h))
+    (iri_name i, by_iri i e (rw e at h))
 
 pub denoted-literal : (t : List ℕ) → Spells (literal part) t → (n : Name) × Denotes a_literal t n
 denoted-literal t (s, r, q, x, y) =
@@ -22,7 +22,7 @@ denoted-literal t (s, r, q, x, y) =
     (n, closed t n (record { raw = u; lexical = v; tail = r; split = split; body = b; after = a }))
 
 pub token_iri : (t : List ℕ) (n : Name) → Denotes an_iri t n → Spells (IRIREF part) t
-token_iri t n (by_iri i e h) = subst (Spells (IRIREF part)) (sym e) h
+token_iri t n (by_iri i e h) = rw e h
 
 pub token_literal : (t : List ℕ) (n : Name) → Denotes a_literal t n → Spells (literal part) t
 token_literal t n (by_plain u v e s m) = (quoted u, [], e ∙ sym (append-nil (quoted u)), s, inl refl)

@@ -1,6 +1,9 @@
 -- Inner devices, for the contracts of the functions that write a spelling. Assumes nothing.
-use Rattle.std.specs.Prelude.{◌≡◌, ℕ, ◌+◌, ◌<◌, ◌≤◌, List, ◌∷◌, ◌++◌, length, take, drop, Option, MatchOption, ◌≢◌}
-use Rattle.spelling.specs.Names.{Escape, Name, canonical, longest}
+use Rattle.std.specs.Prelude.{◌≡◌, ℕ, ◌+◌, ◌<◌, List, ◌∷◌, ◌++◌, length, take, drop, Some, None, Ok, Err, Option, Result, MatchResult, ◌≢◌}
+use Rattle.grammar.specs.Readings.{Kind}
+use Rattle.spelling.specs.declared.canonical.TooLong.{TooLong}
+use Rattle.spelling.specs.Names.{Escape, Name, Denotes, canonical, longest}
+use Rattle.spelling.specs.Answers.{Over}
 
 -- the bytes begin with one that stands for c, itself or as an escape, and the last list follows
 pub data Splits : List ℕ → ℕ → List ℕ → Type 0 where
@@ -11,7 +14,13 @@ pub data Splits : List ℕ → ℕ → List ℕ → Type 0 where
 abbrev pub with_word : List ℕ → ℕ → List ℕ → List ℕ
 with_word xs at word = take at xs ++ (word ++ drop (at + length word) xs)
 
--- r is the length of the canonical spelling of n, which the buffer has at its start, or none where it is too long
-abbrev pub Spelled : Name → List ℕ → List ℕ → Option ℕ → Type 0
-Spelled n before after r =
-    MatchOption r (longest < length (canonical n)) (λ e. (e ≡ length (canonical n)) × (e ≤ longest) × (after ≡ canonical n ++ drop e before))
+-- what is written for a name: its canonical spelling, or a refusal where that is too long
+abbrev pub WroteName : Name → Result (List ℕ) TooLong → Type 0
+WroteName n r = MatchResult r (λ w. w ≡ canonical n) (λ _. longest < length (canonical n))
+
+-- what is written for a token of the kind with these bytes: the canonical spelling of its name, or none where it denotes no
+-- name, or a refusal where the spelling is too long
+abbrev pub Wrote : Kind → List ℕ → Result (Option (List ℕ)) TooLong → Type 0
+Wrote k t (Ok (Some w)) = (m : Name) × Denotes k t m × (w ≡ canonical m)
+Wrote k t (Ok None) = (m : Name) → Denotes k t m → ⊥
+Wrote k t (Err e) = Over k t

@@ -5,6 +5,7 @@
 
 mod canonical;
 mod text;
+mod writer;
 
 pub use canonical::{TooLong, is_lawful, spell};
 

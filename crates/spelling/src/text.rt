@@ -1,10 +1,11 @@
-// Writes the canonical spelling of a token into a buffer.
-ghost use Rattle.std.specs.Prelude.{◌≡◌, ℕ, ◌+◌, ◌<◌, ◌≤◌, List, length, drop, IfSome, MatchOption};
+// Writes the canonical spelling of a token's text.
+ghost use Rattle.std.specs.Prelude.{◌≡◌, ℕ, ◌≢◌, List, ◌∷◌, MatchOption};
 ghost use Rattle.grammar.specs.Readings.{an_iri, a_literal};
-ghost use Rattle.spelling.specs.Names.{Escape, Name, Denotes, escaped_byte};
-ghost use Rattle.spelling.specs.Writing.{Splits, with_word, Spelled};
+ghost use Rattle.spelling.specs.Names.{Escape, Name, Denotes};
+ghost use Rattle.spelling.specs.Writing.{Splits, WroteName};
 
-use crate::LONGEST;
+use crate::canonical::TooLong;
+use crate::writer::Writer;
 
 // The byte that an escape letter stands for.
 fn decoded(letter: u8) -> Option<u8>
@@ -12,94 +13,49 @@ fn decoded(letter: u8) -> Option<u8>
 {
     match char::from(letter) {
         't' => Some(b'\t'),
-        'b' => Some(8),
+        'b' => Some(b'\x08'),
         'n' => Some(b'\n'),
         'r' => Some(b'\r'),
-        'f' => Some(12),
-        '"' => Some(b'"'),
-        '\'' => Some(b'\''),
-        '\\' => Some(b'\\'),
+        'f' => Some(b'\x0c'),
+        '"' | '\'' | '\\' => Some(letter),
         _ => None,
     }
 }
 
-// Copies the text to `out` at `at` and returns where it ends; where it does not fit, nothing is written.
-fn copy(out: &mut [u8], at: usize, text: &[u8]) -> Option<usize>
-    requires within { at ≤ length out.old }
-    ensures fits { MatchOption result (length out.old < at + length text.now) (λ e. (e ≡ at + length text.now) × (e ≤ length out.old)) }
-    ensures written { MatchOption result (out.new ≡ out.old) (λ _. out.new ≡ with_word out.old at text.now) }
+// The next byte of a lexical form, itself or as an escape, and what follows it; none at a quote.
+fn next_byte(text: &[u8]) -> Option<(u8, &[u8])>
+    ensures { MatchOption result ((c : ℕ) (w : List ℕ) → Splits text.now c w → text.now ≡ 34 ∷ w) (λ p. Splits text.now p.0 p.1.now × ((w : List ℕ) → text.now ≢ 34 ∷ w)) }
 {
-    if out.len() - at < text.len() {
-        return None;
-    }
-    let end = at + text.len();
-    out[at..end].copy_from_slice(text);
-    Some(end)
-}
-
-// Writes the byte to `out` at `at` in canonical form and returns where it ends; where it does not fit, nothing is written.
-fn put(out: &mut [u8], at: usize, b: u8) -> Option<usize>
-    requires within { at ≤ length out.old }
-    ensures fits { MatchOption result (length out.old < at + length (escaped_byte b)) (λ e. (e ≡ at + length (escaped_byte b)) × (e ≤ length out.old)) }
-    ensures written { MatchOption result (out.new ≡ out.old) (λ _. out.new ≡ with_word out.old at (escaped_byte b)) }
-{
-    match b {
-        b'\n' => copy(out, at, b"\\n"),
-        b'\r' => copy(out, at, b"\\r"),
-        b'"' => copy(out, at, b"\\\""),
-        b'\\' => copy(out, at, b"\\\\"),
-        _ => copy(out, at, &[b]),
+    match text {
+        [b'\\', letter, rest @ ..] => Some((decoded(*letter)?, rest)),
+        [] | [b'\\'] | [b'"', ..] => None,
+        [byte, rest @ ..] => Some((*byte, rest)),
     }
 }
 
-// A byte of a lexical form, and where the text goes on after it.
-#[derive(Clone, Copy)]
-struct Piece {
-    byte: u8,
-    next: usize,
+// The canonical spelling of an IRI, which is the text as it is.
+pub(crate) fn write_iri(text: &[u8]) -> Result<Writer, TooLong>
+    ensures { (n : Name) → Denotes an_iri text.now n → WroteName n result }
+{
+    let mut writer = Writer::new();
+    writer.copy(text)?;
+    Ok(writer)
 }
 
-// The byte that stands at `i` of the text, itself or as an escape.
-fn piece_at(text: &[u8], i: usize) -> Option<Piece>
-    requires within { i < length text.now }
-    ensures ends { IfSome result (λ p. (i < p.next) × (p.next ≤ length text.now)) }
-    ensures splits { MatchOption result ((c : ℕ) (w : List ℕ) → ¬ Splits (drop i text.now) c w) (λ p. Splits (drop i text.now) p.byte (drop p.next text.now)) }
+// The canonical spelling of a literal: the bytes up to the first quote that is no part of an escape are read and put
+// one by one, and the rest is copied.
+pub(crate) fn write_literal(text: &[u8]) -> Result<Writer, TooLong>
+    ensures { (n : Name) → Denotes a_literal text.now n → WroteName n result }
 {
-    if text[i] != b'\\' {
-        return Some(Piece {
-            byte: text[i],
-            next: i + 1,
-        });
+    let mut writer = Writer::new();
+    let Some((_, mut rest)) = text.split_first() else {
+        return Ok(writer); // no literal is empty
+    };
+    writer.copy(b"\"")?;
+    while let Some((byte, after)) = next_byte(rest) {
+        writer.put(byte)?;
+        rest = after;
     }
-    if i + 1 == text.len() {
-        return None;
-    }
-    let byte = decoded(text[i + 1])?;
-    Some(Piece { byte, next: i + 2 })
-}
-
-// Writes the canonical spelling of an IRI, which is the text as it is, and returns its length; `None` where it is too long.
-pub(crate) fn write_iri(text: &[u8], out: &mut [u8; LONGEST]) -> Option<usize>
-    ensures { (n : Name) → Denotes an_iri text.now n → Spelled n out.old out.new result }
-{
-    copy(out, 0, text)
-}
-
-// Writes the canonical spelling of a literal and returns its length; `None` where it is too long.
-// The bytes up to the first quote that is no part of an escape are read and put one by one, and the rest is copied.
-pub(crate) fn write_literal(text: &[u8], out: &mut [u8; LONGEST]) -> Option<usize>
-    ensures { (n : Name) → Denotes a_literal text.now n → Spelled n out.old out.new result }
-{
-    if text.is_empty() {
-        return None;
-    }
-    out[0] = b'"';
-    let mut i = 1;
-    let mut j = 1;
-    while i < text.len() && text[i] != b'"' {
-        let piece = piece_at(text, i)?;
-        j = put(out, j, piece.byte)?;
-        i = piece.next;
-    }
-    copy(out, j, &text[i..])
+    writer.copy(rest)?;
+    Ok(writer)
 }

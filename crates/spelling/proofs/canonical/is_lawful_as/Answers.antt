@@ -1,28 +1,19 @@
-use Rattle.std.proofs.Common.{◌≡◌, ◌-◌, length, take, sym, refl, ap, ◌∙◌, subst, arith}
+use Rattle.std.proofs.Common.{length, sym, ap, ◌∙◌, arith}
 use Rattle.std.proofs.lemmas.Slice.Eq.{slice_eq-Decides}
-use Rattle.std.proofs.lemmas.List.{take-append-le, take_all}
-use Rattle.ntriples.specs.Answers.{kind_of}
-use Rattle.spelling.specs.Names.{Denotes, canonical}
-use Rattle.spelling.proofs.Laws.{own_name, lawful_or_not}
-use Rattle.spelling.proofs.canonical.is_lawful_as.Goals as goal
 use Rattle.std.proofs.lemmas.Bool.Decides.{Decides-eqb}
+use Rattle.ntriples.specs.Answers.{kind_of}
+use Rattle.spelling.proofs.Laws.{own_name, lawful_or_not, over_lawful}
+use Rattle.spelling.proofs.canonical.is_lawful_as.Goals as goal
 
-pub returns-then-not-has_name : goal.returns-then-not-has_name
-returns-then-not-has_name c = λ h.
-    c.if-not-has_name.ensures.no refl h.name (subst (λ t. Denotes (kind_of c.args.token) t h.name) (sym c.requires.same) (own_name (kind_of c.args.token) c.args.bytes.now h))
+pub returns-in-Ok-Some : goal.returns-in-Ok-Some
+returns-in-Ok-Some c =
+    let (n, d, w) = rw c.in-Ok-Some.field-0-is at c.in-Ok-Some.ensures in
+    let same = slice_eq-Decides Decides-eqb _ _ _ c.eq.ensures in
+    let text = c.text.ensures.written ∙ w in
+    lawful_or_not (kind_of c.args.token) c.args.bytes.now n c.eq.result (rw c.requires.same at d) (omega (arith, c.text.ensures.short, ap length text)) (λ e. sym text ∙ same.0 e) (λ q. same.1 (text ∙ q))
 
-pub returns-in_default : goal.returns-in_default
-returns-in_default c = λ h.
-    let d = subst (λ t. Denotes (kind_of c.args.token) t h.name) (sym c.requires.same) (own_name (kind_of c.args.token) c.args.bytes.now h) in
-    omega (arith, c.in_default.ensures h.name d, h.short, ap length h.spelled)
+pub returns-in-Ok-None : goal.returns-in-Ok-None
+returns-in-Ok-None c = λ h. (rw (c.in-Ok-None.field-0-is, c.requires.same) at c.in-Ok-None.ensures) h.name (own_name _ _ h)
 
-pub returns : goal.returns
-returns c =
-    let k = kind_of c.args.token in
-    let named = c.if-not-has_name.ensures.yes refl in
-    let told = c.in-Some.ensures named.0 named.1 in
-    let n = c.in-Some.n in
-    let d = slice_eq-Decides Decides-eqb _ _ _ c.eq.ensures in
-    let front : take (n - 0) c.write.new.out ≡ canonical named.0 =
-    ap (take (n - 0)) told.2 ∙ take-append-le (n - 0) (canonical named.0) _ (omega (arith, told.0)) ∙ take_all (n - 0) (canonical named.0) (omega (arith, told.0)) in
-    lawful_or_not k c.args.bytes.now named.0 c.eq.result (subst (λ t. Denotes k t named.0) c.requires.same named.1) (omega (arith, told.0, told.1)) (λ e. sym front ∙ d.0 e) (λ q. d.1 (front ∙ q))
+pub returns-in-Err : goal.returns-in-Err
+returns-in-Err c = over_lawful _ _ (rw c.requires.same at c.in-Err.ensures)
