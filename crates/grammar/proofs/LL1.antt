@@ -3,7 +3,7 @@ use Rattle.std.proofs.Common.{◌≡◌, ℕ, Bool, true, ◌&&◌, List, [], �
 use Rattle.std.proofs.lemmas.List.{append_assoc}
 use Rattle.std.proofs.lemmas.Bool.{and_parts}
 use Rattle.grammar.specs.Regular.{Range, Expr, never, empty, one, ◌then◌, ◌or◌, many, Star, stop, more, Spells}
-use Rattle.grammar.proofs.Spans.{no_cons, First, In}
+use Rattle.grammar.proofs.Spans.{First, In}
 use Rattle.grammar.proofs.Classes.{apart, apart_out, in_left, first-left, first_right, neither}
 
 -- the first bytes of a string of the expression that is followed by a byte of the class, or by the end
@@ -46,15 +46,12 @@ begin (many a) fs u x h f = first-many (Spells a) (firsts a []) fs u x (λ c s k
 abbrev pub Cuts : (List ℕ → Type 0) → List Range → Type 0
 Cuts L fs = (u v x y : List ℕ) → L u → L v → First (In fs) x → First (In fs) y → u ++ x ≡ v ++ y → (u ≡ v) × (x ≡ y)
 
-moved : (u v s t x y : List ℕ) → u ≡ s → v ≡ t → u ++ x ≡ v ++ y → s ++ x ≡ t ++ y
-moved u v s t x y p q e = cc
-
 regroup : (u v s t s' t' x y : List ℕ) → u ≡ s ++ t → v ≡ s' ++ t' → u ++ x ≡ v ++ y → s ++ (t ++ x) ≡ s' ++ (t' ++ y)
 regroup u v s t s' t' x y p q e = cc (append_assoc s t x, append_assoc s' t' y)
 
 nil_parts : (u x : List ℕ) → u ++ x ≡ [] → (u ≡ []) × (x ≡ [])
 nil_parts [] x e = (refl, e)
-nil_parts (c ∷ u) x e = absurd (no_cons _ _ e)
+nil_parts (c ∷ u) x e = absurd (cc)
 
 -- the strings are empty if the classes that they begin with are apart
 cuts-apart : (rs ss : List Range) (u v x y : List ℕ) → apart rs ss ≡ true → First (In rs) (u ++ x) → First (In ss) (v ++ y) → u ++ x ≡ v ++ y → (u ≡ v) × (x ≡ y)
@@ -62,7 +59,7 @@ cuts-apart rs ss u v x y h f g e =
     let n = neither rs ss (u ++ x) h f (subst (First (In ss)) (sym e) g) in
     let p = nil_parts u x n in
     let q = nil_parts v y (sym e ∙ n) in
-    (p.0 ∙ sym q.0, p.1 ∙ sym q.1)
+    (cc (p.0, q.0), cc (p.1, q.1))
 
 cuts_or : (a b : Expr) (fs : List Range) → apart (firsts a fs) (firsts b fs) ≡ true → Cuts (Spells a) fs → Cuts (Spells b) fs → Cuts (Spells (a or b)) fs
 cuts_or a b fs out on-a on-b u v x y (inl h) (inl k) f g e = on-a u v x y h k f g e
@@ -81,10 +78,9 @@ module _ (a : Expr) (fs : List Range) (out : apart (firsts a []) fs ≡ true) (o
       absurd (apart_out (firsts a []) fs c out (begin a [] (c ∷ s) [] h tt) (subst (First (In fs)) (e ∙ ap (λ l. l ++ y) p) f))
 
   cuts-many : Cuts (Star (Spells a)) fs
-  cuts-many u v x y stop k f g e = let n = none_left v x y k f e in (sym n, moved [] v [] [] x y refl n e)
+  cuts-many u v x y stop k f g e = let n = none_left v x y k f e in (sym n, cc)
   cuts-many u v x y (more s t p h k) stop f g e =
-      let n = none_left u y x (more s t p h k) g (sym e) in
-      (n, moved u [] [] [] x y n refl e)
+      let n = none_left u y x (more s t p h k) g (sym e) in (n, cc)
   cuts-many u v x y (more s t p h k) (more s' t' q h' k') f g e =
       let c = on s s' (t ++ x) (t' ++ y) h h' (begin (many a) fs t x k f) (begin (many a) fs t' y k' g) (regroup u v s t s' t' x y p q e) in
       let d = cuts-many t t' x y k k' f g c.1 in
@@ -93,10 +89,8 @@ module _ (a : Expr) (fs : List Range) (out : apart (firsts a []) fs ≡ true) (o
 -- an expression that is LL(1) before a class is cut off in one way
 pub cuts : (e : Expr) (fs : List Range) → ll1 e fs ≡ true → Cuts (Spells e) fs
 cuts never fs l u v x y h k f g e = absurd h
-cuts empty fs l u v x y h k f g e = (h ∙ sym k, moved u v [] [] x y h k e)
-cuts (one rs) fs l u v x y (c, p, h) (d, q, k) f g e =
-    let m : c ∷ x ≡ d ∷ y = moved u v (c ∷ []) (d ∷ []) x y p q e in
-    (cc, cc)
+cuts empty fs l u v x y h k f g e = (cc, cc)
+cuts (one rs) fs l u v x y (c, p, h) (d, q, k) f g e = (cc, cc)
 cuts (a then b) fs l u v x y (s, t, p, h, k) (s', t', q, h', k') f g e =
     let m = and_parts (ll1 a (firsts b fs)) (ll1 b fs) l in
     let c = cuts a (firsts b fs) m.0 s s' (t ++ x) (t' ++ y) h h' (begin b fs t x k f) (begin b fs t' y k' g) (regroup u v s t s' t' x y p q e) in

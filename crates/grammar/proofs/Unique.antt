@@ -1,12 +1,13 @@
 -- A line is read in one way, and so is a document, which its lines make up. Assumes nothing.
 use Rattle.std.proofs.Common.{◌≡◌, ℕ, ◌+◌, List, [], ◌∷◌, ◌++◌, length, drop, sym, refl, ◌∙◌, subst}
 use Rattle.std.proofs.lemmas.List.{append-nil}
+use Rattle.std.specs.List.{AllByRecursion}
 use Rattle.grammar.specs.Regular.{Expr, empty, ◌then◌, Spells}
 use Rattle.grammar.specs.Productions.{part, full, byte, WS, comment, subject, predicate, object, rest, line}
 use Rattle.grammar.specs.Readings.{Kind, production, Term, Reading, a_triple, a_comment, nothing, a_fault, Fits, Holds, Reads}
 use Rattle.grammar.specs.Documents.{EndsLine, Unbroken, Ending, by, at_end, Cut, LineAt, Row, Lines, none, more, joined}
 use Rattle.grammar.proofs.Once.{one-stop, served}
-use Rattle.grammar.proofs.Spans.{no_cons, All, First, one-run}
+use Rattle.grammar.proofs.Spans.{First, one-run}
 use Rattle.grammar.proofs.Pieces.{Pieces, thens, flat, pieces_spell, same_pieces, not_both-after}
 use Rattle.grammar.proofs.Terms.{one-kind}
 
@@ -84,7 +85,7 @@ module _ (base : ℕ) (bs : List ℕ) where
       let c = one-stop (line full) (line part) bs h.0 n k.0 m h.2 k.2 in
       cc (h.1, k.1)
 
-unbroken-all : (u : List ℕ) → Unbroken u → All (λ c. EndsLine c → ⊥) u
+unbroken-all : (u : List ℕ) → Unbroken u → AllByRecursion (λ c. EndsLine c → ⊥) u
 unbroken-all [] h = tt
 unbroken-all (c ∷ u) h = (h.0, unbroken-all u h.1)
 
@@ -93,9 +94,9 @@ ending-first e a (by c h) = h
 ending-first e a (at_end h) = subst (First EndsLine) (sym h) tt
 
 same-ending : (e a e' a' : List ℕ) → Ending a e → Ending a' e' → e ++ a ≡ e' ++ a' → (e ≡ e') × (a ≡ a')
-same-ending e a e' a' (by c h) (by d k) p = let q : c ∷ a ≡ d ∷ a' = p in (cc, cc)
-same-ending e a e' a' (by c h) (at_end k) p = absurd (no_cons c a (p ∙ k))
-same-ending e a e' a' (at_end h) (by d k) p = absurd (no_cons d a' (sym p ∙ h))
+same-ending e a e' a' (by c h) (by d k) p = (cc, cc)
+same-ending e a e' a' (by c h) (at_end k) p = absurd (cc)
+same-ending e a e' a' (at_end h) (by d k) p = absurd (cc)
 same-ending e a e' a' (at_end h) (at_end k) p = (refl, p)
 
 pub one-cut : (text b e a b' e' a' : List ℕ) → Cut text b e a → Cut text b' e' a' → (b ≡ b') × (e ≡ e') × (a ≡ a')
