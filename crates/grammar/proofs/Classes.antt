@@ -1,5 +1,5 @@
 -- Classes of bytes that are apart, and their unions. Assumes nothing.
-use Rattle.std.proofs.Common.{◌≡◌, ℕ, Bool, true, ◌&&◌, ◌||◌, ltb, leb, List, [], ◌∷◌, ◌++◌, refl, arith, rules}
+use Rattle.std.proofs.Common.{◌≡◌, ℕ, ◌<◌, Bool, true, ◌&&◌, ◌||◌, ltb, leb, List, [], ◌∷◌, ◌++◌, refl, arith, rules}
 use Rattle.std.proofs.lemmas.Bool.{or_cases, or_left, or_right}
 use Rattle.std.proofs.lemmas.Bool.Decides.{nat_tests}
 use Rattle.grammar.specs.Regular.{Range}
@@ -42,3 +42,12 @@ first_right rs ss (c ∷ u) h = in_right rs ss c h
 pub neither : (rs ss : List Range) (u : List ℕ) → apart rs ss ≡ true → First (In rs) u → First (In ss) u → u ≡ []
 neither rs ss [] h f g = refl
 neither rs ss (c ∷ u) h f g = absurd (apart_out rs ss c h f g)
+
+-- the bytes of the class are up to 127
+abbrev pub low_ranges : List Range → Bool
+low_ranges [] = true
+low_ranges (r ∷ rs) = leb r.high 127 && low_ranges rs
+
+pub low-inside : (rs : List Range) (c : ℕ) → low_ranges rs ≡ true → In rs c → c < 128
+low-inside [] c h k = cc
+low-inside (r ∷ rs) c h k = grind (arith, nat_tests, low-inside rs c)

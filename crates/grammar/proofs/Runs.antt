@@ -4,7 +4,10 @@ use Rattle.std.proofs.lemmas.Bool.{both_ways, cases_lt, lt-leb, cond-false}
 use Rattle.grammar.specs.Regular.{Expr, never, Spells}
 use Rattle.grammar.specs.Productions.{Extent, full, part}
 use Rattle.grammar.specs.Scanner.{State, start, iri, slash, under, colon, label, before, string, escape, quoted, at, tag, hyphen, sub, caret, carets, ended, remark, uchar, dead, move, step, run, Sort, inner, between, done, slashes, escapes, letters, none, sort}
-use Rattle.grammar.proofs.Derivatives.{der_is, low_expr, low_first}
+use Rattle.grammar.proofs.Classes.{low_ranges, low-inside}
+use Rattle.grammar.proofs.Derivatives.{der_is}
+use Rattle.grammar.proofs.LL1.{firsts}
+use Rattle.grammar.proofs.Pieces.{begins_in}
 use Rattle.grammar.proofs.Residue.{left, lettered, skipped, row_at, every}
 
 -- the states that a line can go through
@@ -45,9 +48,12 @@ skip_in full s e u o h = go (lettered (sort s)) (o refl)
     go true k = absurd (both_ways true k refl)
     go false k = h
 
+left_low_firsts : (x : Extent) (s : State) → low_ranges (firsts (left x s) []) ≡ true
+left_low_firsts full s = every (λ t. low_ranges (firsts (left full t) [])) refl refl s
+left_low_firsts part s = every (λ t. low_ranges (firsts (left part t) [])) refl refl s
+
 pub left-low : (x : Extent) (s : State) (c : ℕ) (u : List ℕ) → Spells (left x s) (c ∷ u) → c < 128
-left-low full s c u h = low_first (left full s) c u (every (λ t. low_expr (left full t)) refl refl s) h
-left-low part s c u h = low_first (left part s) c u (every (λ t. low_expr (left part t)) refl refl s) h
+left-low x s c u h = low-inside (firsts (left x s) []) c (left_low_firsts x s) (begins_in (left x s) (c ∷ u) h)
 
 -- what is left after a byte, is left before it with the byte in front
 step_out : (x : Extent) (s : State) (c : ℕ) (u : List ℕ) → Spells (left x (step s c)) u → Spells (left x s) (c ∷ u)

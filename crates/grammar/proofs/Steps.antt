@@ -6,7 +6,7 @@ use Rattle.grammar.specs.Regular.{Range, inside}
 use Rattle.grammar.specs.Productions.{blank, letter, alnum, label_char, iri_char, string_char, uchar_letter, comment_char}
 use Rattle.grammar.specs.Scanner as scan
 use Rattle.grammar.specs.Scanner.{Next, verb, thing, dot, Role, State, start, iri, label, before, string, at, tag, sub, ended, remark, dead, move, step, run, Sort, inner, between, done, slashes, escapes, letters, none, sort, plain, in_term, in_line, Stands, Slashed, in_iri, in_string, Halted, Halts, Stuck, StuckEscape, Ended, RunTo}
-use Rattle.grammar.proofs.Derivatives.{low_ranges, low-inside}
+use Rattle.grammar.proofs.Classes.{low_ranges, low-inside}
 use Rattle.grammar.proofs.Runs.{run-append}
 
 -- a move is a step
