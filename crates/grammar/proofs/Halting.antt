@@ -8,7 +8,8 @@ use Rattle.grammar.specs.Places.{GoesOn, begins, slashed, Why, high, unicode, ot
 use Rattle.grammar.specs.Scanner as scan
 use Rattle.grammar.specs.Scanner.{Next, verb, thing, dot, first, last, State, start, iri, slash, under, colon, label, before, string, escape, quoted, at, tag, hyphen, sub, caret, carets, ended, remark, uchar, dead, step, run, Sort, inner, between, done, slashes, escapes, letters, none, sort, plain, in_line, Stands, Slashed, in_iri, in_string, Halted, Halts}
 use Rattle.grammar.proofs.Derivatives.{nullable, ders, ders_out, nullable_out, nullable_in}
-use Rattle.grammar.proofs.Residue.{left, lettered, every, if, if_so}
+use Rattle.grammar.proofs.Residue.{left, lettered}
+use Rattle.grammar.proofs.States.{where_passed}
 use Rattle.grammar.proofs.Runs.{lives, step_in, run_out, run-part, run-full, left-low, not_full}
 
 -- a string that ends a line from a state where the part that is read can go on
@@ -46,8 +47,7 @@ computed u e h = subst (Spells e) (append-nil u) (ders_out u [] e (nullable_out 
 
 plain_goes : (s : State) → plain (sort s) ≡ true → (u : List ℕ) × Spells (left part s) u
 plain_goes s h =
-    let t = if_so _ _ (every (λ s. if (plain (sort s)) (nullable (ders (finish s) (left part s)))) refl refl s) h in
-    (finish s, computed (finish s) (left part s) t)
+    (finish s, computed (finish s) (left part s) (where_passed (λ s. plain (sort s)) (λ s. nullable (ders (finish s) (left part s))) refl s h))
 
 -- after a backslash the whole grammar goes on with u and four digits, and with U and eight
 abbrev four : List ℕ → List ℕ
@@ -158,8 +158,8 @@ module _ (bs : List ℕ) (k : ℕ) (t : State) (st : Stands start bs k t) where
   ends_not n (scan.short q h) e x =
       let w : Spells (line part) (take k bs ++ []) = subst (Spells (line part)) (sym (append-nil (take k bs) ∙ take_all k bs (omega arith))) x in
       let y = subst (λ s. Spells (left part s) []) st (run-part start (take k bs) [] w) in
-      let z = if_so _ _ (every (λ s. if (in_line (sort s)) (not (nullable (left part s)))) refl refl t) h in
-      both_ways (not (nullable (left part t))) (ap not (nullable_in _ y)) z
+      let z = where_passed (λ s. in_line (sort s)) (λ s. not (nullable (left part s))) refl t h in
+      cc (nullable_in (left part t) y)
 
   reason : (n : ℕ) → (plain (sort t) ≡ true) ⊎ Slashed start bs k t → Halted in_line start bs k t n → Why (line full) bs k n
   reason n v (scan.high l h) = high l h

@@ -6,6 +6,7 @@ pub mod LL1
 pub mod Pieces
 pub mod Terms
 pub mod Unique
+pub mod States
 pub mod Residue
 pub mod Runs
 pub mod Halting

@@ -8,7 +8,8 @@ use Rattle.grammar.specs.Scanner as scan
 use Rattle.grammar.specs.Scanner.{thing, dot, State, before, step, run, sort, in_term, Stands, Halted, Halts, Ended, piece}
 use Rattle.grammar.proofs.Classes.{in_left}
 use Rattle.grammar.proofs.Derivatives.{nullable, der, der_is, nullable_in}
-use Rattle.grammar.proofs.Residue.{left, every, if, if_so}
+use Rattle.grammar.proofs.Residue.{left}
+use Rattle.grammar.proofs.States.{where_passed}
 use Rattle.grammar.proofs.Runs.{step_in, run-part, left-low, not_full}
 use Rattle.grammar.proofs.Halting.{letter-stops}
 use Rattle.grammar.proofs.LL1.{firsts}
@@ -51,8 +52,8 @@ module _ (bs : List ℕ) (h : Spells (object part) bs) where
       let w = run-part (before thing) bs (46 ∷ []) (with_dot bs h) in
       let q : run (before thing) bs ≡ t = ap (run (before thing)) (sym (take_all k bs (omega arith))) ∙ st in
       let x = subst (λ s. Spells (left part s) (46 ∷ [])) q w in
-      let z = if_so _ _ (every (λ s. if (in_term (sort s)) (not (nullable (der 46 (left part s))))) refl refl t) i in
-      both_ways (not (nullable (der 46 (left part t)))) (ap not (nullable_in _ ((der_is 46 (left part t) []).1 x))) z
+      let z = where_passed (λ s. in_term (sort s)) (λ s. not (nullable (der 46 (left part s)))) refl t i in
+      cc (nullable_in (der 46 (left part t)) ((der_is 46 (left part t) []).1 x))
 
   -- a text that halts inside a term is no term
   pub not_halted : (k n : ℕ) → Halts in_term (before thing) bs k n → ⊥

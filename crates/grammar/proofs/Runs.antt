@@ -8,7 +8,8 @@ use Rattle.grammar.proofs.Classes.{low_ranges, low-inside}
 use Rattle.grammar.proofs.Derivatives.{der_is}
 use Rattle.grammar.proofs.LL1.{firsts}
 use Rattle.grammar.proofs.Pieces.{begins_in}
-use Rattle.grammar.proofs.Residue.{left, lettered, skipped, row_at, every}
+use Rattle.grammar.proofs.Residue.{left, lettered, skipped, row_at}
+use Rattle.grammar.proofs.States.{every, where_passed}
 
 -- the states that a line can go through
 abbrev pub lives : Sort → Bool
@@ -49,8 +50,8 @@ skip_in full s e u o h = go (lettered (sort s)) (o refl)
     go false k = h
 
 left_low_firsts : (x : Extent) (s : State) → low_ranges (firsts (left x s) []) ≡ true
-left_low_firsts full s = every (λ t. low_ranges (firsts (left full t) [])) refl refl s
-left_low_firsts part s = every (λ t. low_ranges (firsts (left part t) [])) refl refl s
+left_low_firsts full s = every (λ t. low_ranges (firsts (left full t) [])) refl s
+left_low_firsts part s = every (λ t. low_ranges (firsts (left part t) [])) refl s
 
 pub left-low : (x : Extent) (s : State) (c : ℕ) (u : List ℕ) → Spells (left x s) (c ∷ u) → c < 128
 left-low x s c u h = low-inside (firsts (left x s) []) c (left_low_firsts x s) (begins_in (left x s) (c ∷ u) h)
