@@ -1,7 +1,7 @@
 -- Where the states halt, a line of the grammar stops. Assumes nothing.
 use Rattle.std.proofs.Common.{◌≡◌, ℕ, ◌+◌, ◌<◌, true, not, ◌⊎◌, List, [], ◌∷◌, ◌++◌, length, get_or, take, sym, refl, ap, ◌∙◌, subst, inl, inr, ⊎_elim, append_assoc, append-nil, arith}
 use Rattle.std.proofs.lemmas.Bool.{both_ways}
-use Rattle.std.proofs.lemmas.List.{take_all, take_more}
+use Rattle.std.proofs.lemmas.List.{take_all, take_more, same_from_push}
 use Rattle.grammar.specs.Regular.{Expr, never, Spells, Begins}
 use Rattle.grammar.specs.Productions.{full, part, line}
 use Rattle.grammar.specs.Places.{GoesOn, begins, slashed, Why, high, unicode, other, short, Stops}
@@ -10,7 +10,7 @@ use Rattle.grammar.specs.Scanner.{Next, verb, thing, dot, first, last, State, st
 use Rattle.grammar.proofs.Derivatives.{nullable, ders, ders_out, nullable_out, nullable_in}
 use Rattle.grammar.proofs.Residue.{left, lettered}
 use Rattle.grammar.proofs.States.{where_passed}
-use Rattle.grammar.proofs.Runs.{lives, step_in, run_out, run-part, run-full, left-low, not_full}
+use Rattle.grammar.proofs.Runs.{lives, step_in, run_out, run-part, run-full, left-low}
 
 -- a string that ends a line from a state where the part that is read can go on
 abbrev finish : State → List ℕ
@@ -75,23 +75,6 @@ slashed-lives : (s : State) (bs : List ℕ) (k : ℕ) (t : State) → Slashed s 
 slashed-lives s bs k t (in_iri n j a b x y) = refl
 slashed-lives s bs k t in_string = refl
 
-plain-lives : (s : Sort) → plain s ≡ true → lives s ≡ true
-plain-lives inner h = refl
-plain-lives between h = refl
-plain-lives done h = refl
-plain-lives slashes h = refl
-plain-lives escapes h = refl
-plain-lives letters h = h
-plain-lives none h = h
-
-snoc_last : (p q : List ℕ) (c d : ℕ) → p ++ c ∷ [] ≡ q ++ d ∷ [] → c ≡ d
-snoc_last [] [] c d e = cc
-snoc_last [] (x ∷ []) c d e = absurd (let z : ◌≡◌ {A = ℕ} 0 1 = cc in omega arith)
-snoc_last [] (x ∷ (y ∷ q)) c d e = absurd (let z : ◌≡◌ {A = ℕ} 0 1 = cc in omega arith)
-snoc_last (x ∷ []) [] c d e = absurd (let z : ◌≡◌ {A = ℕ} 0 1 = cc in omega arith)
-snoc_last (x ∷ (y ∷ p)) [] c d e = absurd (let z : ◌≡◌ {A = ℕ} 0 1 = cc in omega arith)
-snoc_last (x ∷ p) (y ∷ q) c d e = snoc_last p q c d (let z : p ++ c ∷ [] ≡ q ++ d ∷ [] = cc in z)
-
 module _ (bs : List ℕ) (k : ℕ) (t : State) (st : Stands start bs k t) where
   begins-part : plain (sort t) ≡ true → Begins (line part) (take k bs)
   begins-part h =
@@ -120,7 +103,7 @@ module _ (bs : List ℕ) (k : ℕ) (t : State) (st : Stands start bs k t) where
       after t st in_string = begins (let g = plain_goes escape refl in (g.0, run_out part start (take k bs) g.0 (subst (λ s. Spells (left part s) g.0) (sym st) g.1)))
 
   lives_at : (plain (sort t) ≡ true) ⊎ Slashed start bs k t → lives (sort (run start (take k bs))) ≡ true
-  lives_at h = ap (λ s. lives (sort s)) st ∙ ⊎_elim (λ x. plain-lives (sort t) x) (λ x. slashed-lives start bs k t x) h
+  lives_at h = ap (λ s. lives (sort s)) st ∙ ⊎_elim (λ x. where_passed (λ s. plain (sort s)) (λ s. lives (sort s)) refl t x) (λ x. slashed-lives start bs k t x) h
 
   -- the byte at k, by what is left before it
   module _ (l : k < length bs) where
@@ -135,7 +118,7 @@ module _ (bs : List ℕ) (k : ℕ) (t : State) (st : Stands start bs k t) where
         (q, subst (λ s. Spells (left full s) (get_or bs k 0 ∷ q)) st (run-full start (take k bs) (get_or bs k 0 ∷ q) (lives_at v) y))
 
     no_part : left part (step t (get_or bs k 0)) ≡ never → Begins (line part) (take (k + 1) bs) → ⊥
-    no_part d h = let n = next-part h in subst (λ e. Spells e n.0) d (step_in part t (get_or bs k 0) n.0 (λ e. not_full e) n.1)
+    no_part d h = let n = next-part h in subst (λ e. Spells e n.0) d (step_in part t (get_or bs k 0) n.0 (λ e. cc) n.1)
 
     no_full : (plain (sort t) ≡ true) ⊎ Slashed start bs k t → step t (get_or bs k 0) ≡ dead → Begins (line full) (take (k + 1) bs) → ⊥
     no_full v d h = let n = next-full v h in subst (λ s. Spells (left full s) n.0) d (step_in full t (get_or bs k 0) n.0 (λ _. ap (λ s. lettered (sort s)) d) n.1)
@@ -145,8 +128,8 @@ module _ (bs : List ℕ) (k : ℕ) (t : State) (st : Stands start bs k t) where
   goes_not n v (scan.high l h) m (slashed p e x y) = let z = next-full m v y in omega (arith, left-low full t (get_or bs k 0) z.0 z.1)
   goes_not n v (scan.unicode l s e) m (begins x) = no_part m (letter-stops start bs k t (get_or bs k 0) s e) x
   goes_not n v (scan.unicode l s e) m (slashed p q x y) =
-      let z = snoc_last (take k bs) p (get_or bs k 0) 92 (sym (take_more bs k 0 l) ∙ q) in
-      ⊎_elim (λ a. let b : ◌≡◌ {A = ℕ} 117 92 = sym a ∙ z in omega arith) (λ a. let b : ◌≡◌ {A = ℕ} 85 92 = sym a ∙ z in omega arith) e
+      let z : get_or bs k 0 ≡ 92 = (same_from_push (take k bs) p (get_or bs k 0) 92 (sym (take_more bs k 0 l) ∙ q)).1 in
+      ⊎_elim (λ a. omega arith) (λ a. omega arith) e
   goes_not n v (scan.other l h d) m (begins x) = no_part m (ap (left part) d) x
   goes_not n v (scan.other l h d) m (slashed p q x y) = no_full m v d y
   goes_not n v (scan.short e h) m g = omega arith

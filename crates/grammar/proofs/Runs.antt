@@ -1,6 +1,7 @@
 -- What is left of the grammar along a run of the states. Assumes nothing.
-use Rattle.std.proofs.Common.{◌≡◌, ℕ, ◌<◌, ◌≤◌, Bool, true, false, cond, leb, List, [], ◌∷◌, ◌++◌, sym, refl, ap, ◌∙◌, subst, ⊎_elim, arith}
-use Rattle.std.proofs.lemmas.Bool.{both_ways, cases_lt, lt-leb, cond-false}
+use Rattle.std.proofs.Common.{◌≡◌, ℕ, ◌<◌, ◌≤◌, Bool, true, false, cond, not, ◌||◌, leb, List, [], ◌∷◌, ◌++◌, sym, refl, ap, ◌∙◌, subst, ⊎_elim, arith}
+use Rattle.std.proofs.lemmas.Bool.{cases_lt, cond-false, cond_both, or_cases, not-true}
+use Rattle.std.proofs.lemmas.Bool.Decides.{nat_tests}
 use Rattle.grammar.specs.Regular.{Expr, never, Spells}
 use Rattle.grammar.specs.Productions.{Extent, full, part}
 use Rattle.grammar.specs.Scanner.{State, start, iri, slash, under, colon, label, before, string, escape, quoted, at, tag, hyphen, sub, caret, carets, ended, remark, uchar, dead, move, step, run, Sort, inner, between, done, slashes, escapes, letters, none, sort}
@@ -21,33 +22,19 @@ lives escapes = true
 lives letters = false
 lives none = false
 
-not_lettered : (t : Sort) → lives t ≡ true → lettered t ≡ false
-not_lettered inner h = refl
-not_lettered between h = refl
-not_lettered done h = refl
-not_lettered slashes h = refl
-not_lettered escapes h = refl
-not_lettered letters h = absurd (both_ways false refl h)
-not_lettered none h = refl
+not_lettered : (s : State) → lives (sort s) ≡ true → lettered (sort s) ≡ false
+not_lettered s h = not-true _ (where_passed (λ t. lives (sort t)) (λ t. not (lettered (sort t))) refl s h)
 
 pub step-high : (s : State) (c : ℕ) → 128 ≤ c → step s c ≡ dead
-step-high s c h = cond-false (leb c 127) (move s c) dead (lt-leb c 127 (omega arith))
+step-high s c h = grind (arith, nat_tests)
 
 skip_out : (x : Extent) (s : State) (e : Expr) (u : List ℕ) → Spells (skipped x s e) u → Spells e u
 skip_out part s e u h = h
-skip_out full s e u h = go (lettered (sort s)) h
-  where
-    go : (b : Bool) → Spells (cond b never e) u → Spells e u
-    go true k = absurd k
-    go false k = k
+skip_out full s e u h = cond_both (lettered (sort s)) never e (λ d. Spells d u → Spells e u) (λ _ k. absurd k) (λ _ k. k) h
 
 skip_in : (x : Extent) (s : State) (e : Expr) (u : List ℕ) → (x ≡ full → lettered (sort s) ≡ false) → Spells e u → Spells (skipped x s e) u
 skip_in part s e u o h = h
-skip_in full s e u o h = go (lettered (sort s)) (o refl)
-  where
-    go : (b : Bool) → b ≡ false → Spells (cond b never e) u
-    go true k = absurd (both_ways true k refl)
-    go false k = h
+skip_in full s e u o h = subst (λ d. Spells d u) (sym (cond-false (lettered (sort s)) never e (o refl))) h
 
 left_low_firsts : (x : Extent) (s : State) → low_ranges (firsts (left x s) []) ≡ true
 left_low_firsts full s = every (λ t. low_ranges (firsts (left full t) [])) refl s
@@ -71,41 +58,16 @@ pub run_out : (x : Extent) (s : State) (p u : List ℕ) → Spells (left x (run 
 run_out x s [] u h = h
 run_out x s (c ∷ p) u h = step_out x s c (p ++ u) (run_out x (step s c) p u h)
 
-pub not_full : {A : Type 0} → part ≡ full → A
-not_full e = absurd (let z : ◌≡◌ {A = ℕ} 0 1 = cc in omega arith)
-
 pub run-part : (s : State) (p u : List ℕ) → Spells (left part s) (p ++ u) → Spells (left part (run s p)) u
 run-part s [] u h = h
-run-part s (c ∷ p) u h = run-part (step s c) p u (step_in part s c (p ++ u) (λ e. not_full e) h)
-
-step-dead : (c : ℕ) → step dead c ≡ dead
-step-dead c = go (leb c 127)
-  where
-    go : (b : Bool) → cond b dead dead ≡ dead
-    go true = refl
-    go false = refl
+run-part s (c ∷ p) u h = run-part (step s c) p u (step_in part s c (p ++ u) (λ e. cc) h)
 
 live-step : (s : State) (c : ℕ) → lives (sort (step s c)) ≡ true → lives (sort s) ≡ true
-live-step start c h = refl
-live-step (iri n) c h = refl
-live-step (slash n) c h = refl
-live-step (under n) c h = refl
-live-step (colon n) c h = refl
-live-step (label n) c h = refl
-live-step (before n) c h = refl
-live-step string c h = refl
-live-step escape c h = refl
-live-step quoted c h = refl
-live-step at c h = refl
-live-step tag c h = refl
-live-step hyphen c h = refl
-live-step sub c h = refl
-live-step caret c h = refl
-live-step carets c h = refl
-live-step ended c h = refl
-live-step remark c h = refl
-live-step uchar c h = absurd (both_ways false refl (ap (λ t. lives (sort t)) (sym (step-dead c)) ∙ h))
-live-step dead c h = absurd (both_ways false refl (ap (λ t. lives (sort t)) (sym (step-dead c)) ∙ h))
+live-step s c h =
+    cond_both (leb c 127) (move s c) dead (λ t. lives (sort t) ≡ true → lives (sort s) ≡ true)
+    (λ _ k. ⊎_elim (λ x. x) (λ x. cc) (or_cases _ _ (every (λ t. lives (sort t) || not (lives (sort (move t c)))) refl s)))
+    (λ _ k. cc)
+    h
 
 live-run : (s : State) (p : List ℕ) → lives (sort (run s p)) ≡ true → lives (sort s) ≡ true
 live-run s [] h = h
@@ -114,7 +76,7 @@ live-run s (c ∷ p) h = live-step s c (live-run (step s c) p h)
 pub run-full : (s : State) (p u : List ℕ) → lives (sort (run s p)) ≡ true → Spells (left full s) (p ++ u) → Spells (left full (run s p)) u
 run-full s [] u l h = h
 run-full s (c ∷ p) u l h =
-    run-full (step s c) p u l (step_in full s c (p ++ u) (λ _. not_lettered _ (live-run (step s c) p l)) h)
+    run-full (step s c) p u l (step_in full s c (p ++ u) (λ _. not_lettered (step s c) (live-run (step s c) p l)) h)
 
 pub run-append : (s : State) (p q : List ℕ) → run s (p ++ q) ≡ run (run s p) q
 run-append s [] q = refl
