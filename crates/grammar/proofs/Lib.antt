@@ -9,6 +9,7 @@ pub mod Unique
 pub mod States
 pub mod Residue
 pub mod Runs
+pub mod Finishes
 pub mod Halting
 pub mod Steps
 pub mod Moves

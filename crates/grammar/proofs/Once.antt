@@ -6,7 +6,7 @@ use Rattle.grammar.specs.Regular.{Expr, Spells, Begins}
 use Rattle.grammar.specs.Places.{GoesOn, begins, slashed, Why, high, unicode, other, short, Stops}
 
 -- a prefix of what begins a string begins it
-begins_shorter : (e : Expr) (p r : List ℕ) → Begins e (p ++ r) → Begins e p
+pub begins_shorter : (e : Expr) (p r : List ℕ) → Begins e (p ++ r) → Begins e p
 begins_shorter e p r (t, x) = (r ++ t, subst (Spells e) (append_assoc p r t) x)
 
 -- a prefix of a list with one more byte is all of it, or a prefix of the list

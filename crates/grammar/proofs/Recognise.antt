@@ -10,8 +10,8 @@ use Rattle.grammar.proofs.Classes.{in_left}
 use Rattle.grammar.proofs.Derivatives.{nullable, der, der_is, nullable_in}
 use Rattle.grammar.proofs.Residue.{left}
 use Rattle.grammar.proofs.States.{where_passed}
-use Rattle.grammar.proofs.Runs.{step_in, run-part, left-low}
-use Rattle.grammar.proofs.Halting.{letter-stops}
+use Rattle.grammar.proofs.Runs.{step_in, left-low, left-part}
+use Rattle.grammar.proofs.Finishes.{letter-stops}
 use Rattle.grammar.proofs.LL1.{firsts}
 use Rattle.grammar.proofs.Pieces.{begins_in}
 use Rattle.grammar.proofs.Slices.{piece_whole}
@@ -33,11 +33,10 @@ module _ (bs : List ℕ) (h : Spells (object part) bs) where
   -- what is left before the byte at k
   rest_at : (k : ℕ) (t : State) → Stands (before thing) bs k t → k < length bs → (u : List ℕ) × Spells (left part t) (get_or bs k 0 ∷ u)
   rest_at k t st l =
-      let e : bs ++ 46 ∷ [] ≡ take k bs ++ (get_or bs k 0 ∷ (drop (k + 1) bs ++ 46 ∷ [])) =
-      ap (λ x. x ++ 46 ∷ []) (sym (take-append-drop k bs) ∙ ap (λ x. take k bs ++ x) (drop_more bs k 0 l)) ∙ append_assoc (take k bs) (get_or bs k 0 ∷ drop (k + 1) bs) (46 ∷ []) in (
-        drop (k + 1) bs ++ 46 ∷ [],
-        subst (λ s. Spells (left part s) (get_or bs k 0 ∷ (drop (k + 1) bs ++ 46 ∷ []))) st (run-part (before thing) (take k bs) _ (subst (Spells (left part (before thing))) e (with_dot bs h))),
-      )
+      let v = drop (k + 1) bs ++ 46 ∷ [] in
+      let e : bs ++ 46 ∷ [] ≡ take k bs ++ get_or bs k 0 ∷ v =
+      ap (λ x. x ++ 46 ∷ []) (sym (take-append-drop k bs) ∙ ap (λ x. take k bs ++ x) (drop_more bs k 0 l)) ∙ append_assoc (take k bs) (get_or bs k 0 ∷ drop (k + 1) bs) (46 ∷ []) in
+      (v, left-part (before thing) bs k t st (get_or bs k 0 ∷ v) (subst (Spells (left part (before thing))) e (with_dot bs h)))
 
   goes-dead : (k : ℕ) (t : State) → Stands (before thing) bs k t → k < length bs → left part (step t (get_or bs k 0)) ≡ never → ⊥
   goes-dead k t st l d =
@@ -49,9 +48,8 @@ module _ (bs : List ℕ) (h : Spells (object part) bs) where
   halted k n t st (scan.unicode l s e) = goes-dead k t st l (letter-stops (before thing) bs k t (get_or bs k 0) s e)
   halted k n t st (scan.other l c d) = goes-dead k t st l (ap (left part) d)
   halted k n t st (scan.short e i) =
-      let w = run-part (before thing) bs (46 ∷ []) (with_dot bs h) in
-      let q : run (before thing) bs ≡ t = ap (run (before thing)) (sym (take_all k bs (omega arith))) ∙ st in
-      let x = subst (λ s. Spells (left part s) (46 ∷ [])) q w in
+      let w = subst (λ l. Spells (left part (before thing)) (l ++ 46 ∷ [])) (sym (take_all k bs (omega arith))) (with_dot bs h) in
+      let x = left-part (before thing) bs k t st (46 ∷ []) w in
       let z = where_passed (λ s. in_term (sort s)) (λ s. not (nullable (der 46 (left part s)))) refl t i in
       cc (nullable_in (der 46 (left part t)) ((der_is 46 (left part t) []).1 x))
 

@@ -1,10 +1,10 @@
 -- What is left of the grammar along a run of the states. Assumes nothing.
-use Rattle.std.proofs.Common.{◌≡◌, ℕ, ◌<◌, ◌≤◌, Bool, true, false, cond, not, ◌||◌, leb, List, [], ◌∷◌, ◌++◌, sym, refl, ap, ◌∙◌, subst, ⊎_elim, arith}
+use Rattle.std.proofs.Common.{◌≡◌, ℕ, ◌<◌, ◌≤◌, Bool, true, false, not, ◌||◌, leb, List, [], ◌∷◌, ◌++◌, take, sym, refl, ap, ◌∙◌, subst, ⊎_elim, arith}
 use Rattle.std.proofs.lemmas.Bool.{cases_lt, cond-false, cond_both, or_cases, not-true}
 use Rattle.std.proofs.lemmas.Bool.Decides.{nat_tests}
 use Rattle.grammar.specs.Regular.{Expr, never, Spells}
 use Rattle.grammar.specs.Productions.{Extent, full, part}
-use Rattle.grammar.specs.Scanner.{State, start, iri, slash, under, colon, label, before, string, escape, quoted, at, tag, hyphen, sub, caret, carets, ended, remark, uchar, dead, move, step, run, Sort, inner, between, done, slashes, escapes, letters, none, sort}
+use Rattle.grammar.specs.Scanner.{State, dead, move, step, run, Sort, inner, between, done, slashes, escapes, letters, none, sort, Stands}
 use Rattle.grammar.proofs.Classes.{low_ranges, low-inside}
 use Rattle.grammar.proofs.Derivatives.{der_is}
 use Rattle.grammar.proofs.LL1.{firsts}
@@ -54,11 +54,11 @@ step_out x s c u h =
 pub step_in : (x : Extent) (s : State) (c : ℕ) (u : List ℕ) → (x ≡ full → lettered (sort (step s c)) ≡ false) → Spells (left x s) (c ∷ u) → Spells (left x (step s c)) u
 step_in x s c u o h = subst (λ e. Spells e u) (row_at x s c (left-low x s c u h)) (skip_in x (step s c) _ u o ((der_is c (left x s) u).1 h))
 
-pub run_out : (x : Extent) (s : State) (p u : List ℕ) → Spells (left x (run s p)) u → Spells (left x s) (p ++ u)
+run_out : (x : Extent) (s : State) (p u : List ℕ) → Spells (left x (run s p)) u → Spells (left x s) (p ++ u)
 run_out x s [] u h = h
 run_out x s (c ∷ p) u h = step_out x s c (p ++ u) (run_out x (step s c) p u h)
 
-pub run-part : (s : State) (p u : List ℕ) → Spells (left part s) (p ++ u) → Spells (left part (run s p)) u
+run-part : (s : State) (p u : List ℕ) → Spells (left part s) (p ++ u) → Spells (left part (run s p)) u
 run-part s [] u h = h
 run-part s (c ∷ p) u h = run-part (step s c) p u (step_in part s c (p ++ u) (λ e. cc) h)
 
@@ -73,7 +73,7 @@ live-run : (s : State) (p : List ℕ) → lives (sort (run s p)) ≡ true → li
 live-run s [] h = h
 live-run s (c ∷ p) h = live-step s c (live-run (step s c) p h)
 
-pub run-full : (s : State) (p u : List ℕ) → lives (sort (run s p)) ≡ true → Spells (left full s) (p ++ u) → Spells (left full (run s p)) u
+run-full : (s : State) (p u : List ℕ) → lives (sort (run s p)) ≡ true → Spells (left full s) (p ++ u) → Spells (left full (run s p)) u
 run-full s [] u l h = h
 run-full s (c ∷ p) u l h =
     run-full (step s c) p u l (step_in full s c (p ++ u) (λ _. not_lettered (step s c) (live-run (step s c) p l)) h)
@@ -81,3 +81,14 @@ run-full s (c ∷ p) u l h =
 pub run-append : (s : State) (p q : List ℕ) → run s (p ++ q) ≡ run (run s p) q
 run-append s [] q = refl
 run-append s (c ∷ p) q = run-append (step s c) p q
+
+-- what is left at the state that the first k bytes lead to
+module _ (s : State) (bs : List ℕ) (k : ℕ) (t : State) (st : Stands s bs k t) (u : List ℕ) where
+  pub left_out : (x : Extent) → Spells (left x t) u → Spells (left x s) (take k bs ++ u)
+  left_out x h = run_out x s (take k bs) u (subst (λ a. Spells (left x a) u) (sym st) h)
+
+  pub left-part : Spells (left part s) (take k bs ++ u) → Spells (left part t) u
+  left-part h = subst (λ a. Spells (left part a) u) st (run-part s (take k bs) u h)
+
+  pub left-full : lives (sort t) ≡ true → Spells (left full s) (take k bs ++ u) → Spells (left full t) u
+  left-full l h = subst (λ a. Spells (left full a) u) st (run-full s (take k bs) u (ap (λ a. lives (sort a)) st ∙ l) h)
