@@ -1,5 +1,5 @@
 -- How a line can go on from a state: a string that ends it, and the letter of \u or \U after a backslash. Assumes nothing.
-use Rattle.std.proofs.Common.{◌≡◌, ℕ, true, ◌⊎◌, List, [], ◌∷◌, sym, refl, ap, subst, inl, inr, append-nil}
+use Rattle.std.proofs.Common.{◌≡◌, ℕ, true, ◌⊎◌, List, [], ◌∷◌, refl, ap, subst, inl, inr, append-nil}
 use Rattle.grammar.specs.Regular.{Expr, never, Spells}
 use Rattle.grammar.specs.Productions.{full, part}
 use Rattle.grammar.specs.Scanner.{Next, verb, thing, dot, first, last, State, start, iri, slash, under, colon, label, before, string, escape, quoted, at, tag, hyphen, sub, caret, carets, ended, remark, uchar, dead, step, sort, plain, Slashed, in_iri, in_string}
@@ -54,10 +54,10 @@ slash_goes thing = (computed _ (left full (slash thing)) refl, computed _ (left 
 slash_goes dot = (computed _ (left full (slash dot)) refl, computed _ (left full (slash dot)) refl)
 
 pub letter_goes : (s : State) (bs : List ℕ) (k : ℕ) (t : State) (c : ℕ) → Slashed s bs k t → (c ≡ 117) ⊎ (c ≡ 85) → (u : List ℕ) × Spells (left full t) (c ∷ u)
-letter_goes s bs k t c (in_iri n j a b x y) (inl e) = (four (finish (iri n)), subst (λ d. Spells (left full (slash n)) (d ∷ four (finish (iri n)))) (sym e) (slash_goes n).0)
-letter_goes s bs k t c (in_iri n j a b x y) (inr e) = (four (four (finish (iri n))), subst (λ d. Spells (left full (slash n)) (d ∷ four (four (finish (iri n))))) (sym e) (slash_goes n).1)
-letter_goes s bs k t c in_string (inl e) = (four (finish string), subst (λ d. Spells (left full escape) (d ∷ four (finish string))) (sym e) (computed (117 ∷ four (finish string)) (left full escape) refl))
-letter_goes s bs k t c in_string (inr e) = (four (four (finish string)), subst (λ d. Spells (left full escape) (d ∷ four (four (finish string)))) (sym e) (computed (85 ∷ four (four (finish string))) (left full escape) refl))
+letter_goes s bs k t c (in_iri n j a b x y) (inl e) = (four (finish (iri n)), rw e (slash_goes n).0)
+letter_goes s bs k t c (in_iri n j a b x y) (inr e) = (four (four (finish (iri n))), rw e (slash_goes n).1)
+letter_goes s bs k t c in_string (inl e) = (four (finish string), rw e (computed (117 ∷ four (finish string)) (left full escape) refl))
+letter_goes s bs k t c in_string (inr e) = (four (four (finish string)), rw e (computed (85 ∷ four (four (finish string))) (left full escape) refl))
 
 -- and the part that is read does not
 pub letter-stops : (s : State) (bs : List ℕ) (k : ℕ) (t : State) (c : ℕ) → Slashed s bs k t → (c ≡ 117) ⊎ (c ≡ 85) → left part (step t c) ≡ never

@@ -1,6 +1,6 @@
 -- What the scanner's states do at the bytes that the code tests. Assumes nothing.
 use Rattle.std.proofs.Common.{◌≡◌, ℕ, ◌+◌, ◌<◌, true, false, cond, eqb, List, length, get_or, refl, ap, ◌∙◌, inl, inr}
-use Rattle.std.proofs.lemmas.Bool.{cond-true, cond-false, ne_eqb}
+use Rattle.std.proofs.lemmas.Bool.{cond-false, ne_eqb}
 use Rattle.grammar.specs.Regular.{inside}
 use Rattle.grammar.specs.Productions.{blank, letter, alnum, label_char, iri_char, string_char, escape_letter, comment_char}
 use Rattle.grammar.specs.Scanner.{Next, verb, thing, dot, Role, follows, State, start, iri, slash, colon, label, before, string, escape, quoted, at, tag, hyphen, sub, carets, ended, remark, dead, move, step, plain, in_line, Stands, in_iri, in_string, Stuck, StuckEscape, Ended, Tagged, RunTo}
@@ -88,16 +88,16 @@ module _ (s : State) (bs : List ℕ) (k : ℕ) where
 module _ (s : State) (bs : List ℕ) (k : ℕ) where
   pub label-run : (e : ℕ) (r : Role) → RunTo label_char bs k e → k < e → Stands s bs k (colon r) → Ended s bs e (follows r)
   label-run e r u l h =
-      label-ended s bs e r (run_enters s bs label_char (label r) (loops_label r) (colon r) k e u l (λ c i. class_step label_char (colon r) (label r) c refl i (cond-true _ _ _ i)) h) u.past
+      label-ended s bs e r (run_enters s bs label_char (label r) (loops_label r) (colon r) k e u l (λ c i. class_step label_char (colon r) (label r) _ c refl refl i) h) u.past
 
   pub tag-run : (e : ℕ) → RunTo letter bs k e → k < e → Stands s bs k at → Tagged s bs e
-  tag-run e u l h = inl (run_enters s bs letter tag loops_tag at k e u l (λ c i. class_step letter at tag c refl i (cond-true _ _ _ i)) h, u.past)
+  tag-run e u l h = inl (run_enters s bs letter tag loops_tag at k e u l (λ c i. class_step letter at tag _ c refl refl i) h, u.past)
 
   pub sub-run : (e : ℕ) → RunTo alnum bs k e → k < e → Stands s bs k hyphen → Tagged s bs e
-  sub-run e u l h = inr (run_enters s bs alnum sub loops_sub hyphen k e u l (λ c i. class_step alnum hyphen sub c refl i (cond-true _ _ _ i)) h, u.past)
+  sub-run e u l h = inr (run_enters s bs alnum sub loops_sub hyphen k e u l (λ c i. class_step alnum hyphen sub _ c refl refl i) h, u.past)
 
   pub escape-letter : k < length bs → inside escape_letter (get_or bs k 0) ≡ true → Stands s bs k escape → Stands s bs (k + 1) string
-  escape-letter l i h = onward s bs k escape string h l (class_step escape_letter escape string (get_or bs k 0) refl i (cond-true _ _ _ i))
+  escape-letter l i h = onward s bs k escape string h l (class_step escape_letter escape string _ (get_or bs k 0) refl refl i)
 
 -- after a term
 module _ (s : State) (bs : List ℕ) (k : ℕ) (n : Next) (h : Ended s bs k n) where
