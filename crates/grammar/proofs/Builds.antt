@@ -3,7 +3,7 @@ use Rattle.std.proofs.Common.{◌≡◌, ℕ, ◌+◌, ◌<◌, ◌≤◌, true,
 use Rattle.grammar.specs.Regular.{inside, one, ◌then◌, ◌or◌, many, Spells, Is}
 use Rattle.grammar.specs.Productions.{part, byte, letter, alnum, label_char, iri_char, string_char, escape_letter, UCHAR, ECHAR, IRIREF, BLANK_NODE_LABEL, STRING_LITERAL_QUOTE, subtag, LANGTAG, suffix, datatype, literal, comment, comment_char}
 use Rattle.grammar.specs.Scanner.{piece, RunTo}
-use Rattle.grammar.proofs.Slices.{piece-none, byte_at, class_at, join, none_yet, one_more, run_spells, run-units, run_some}
+use Rattle.grammar.proofs.Slices.{piece-none, byte_at, class_at, join, none_yet, one_more, run_spells, run-units, run_rest, run_some}
 
 -- the bytes and escapes of a string so far
 abbrev pub units : Rattle.grammar.specs.Regular.Expr
@@ -38,7 +38,7 @@ module _ (bs : List ℕ) (a : ℕ) (l : a < length bs) where
   build_tag m e q r k n u = record {
     spelled = join bs (byte 64) (one letter then many (one letter) then many subtag) a (a + 1) e (omega arith) (omega arith) (byte_at bs 64 a l q refl)
         (join bs (one letter) (many (one letter) then many subtag) (a + 1) (a + 1 + 1) e (omega arith) (omega arith) (class_at bs letter (a + 1) (omega (arith, r.within)) (r.all (a + 1) (omega arith) k))
-        (join bs (many (one letter)) (many subtag) (a + 1 + 1) m e (omega arith) n (run_spells bs letter (a + 1 + 1) m (record { forward = omega arith; within = r.within; all = λ j x y. r.all j (omega arith) y; past = r.past })) u));
+        (join bs (many (one letter)) (many subtag) (a + 1 + 1) m e (omega arith) n (run_spells bs letter (a + 1 + 1) m (run_rest letter bs (a + 1) m r k)) u));
   }
 
   pub build_datatype : (e : ℕ) → get_or bs a 0 ≡ 94 → a + 1 < length bs → get_or bs (a + 1) 0 ≡ 94 → a + 1 + 1 ≤ e → Is (IRIREF part) (piece bs (a + 1 + 1) e) → Is (datatype part) (piece bs a e)

@@ -1,11 +1,12 @@
 -- The line of a document at an offset, from where it ends. Assumes nothing.
 use Rattle.std.proofs.Common.{◌≡◌, ℕ, zero, suc, ◌+◌, ◌-◌, ◌<◌, ◌≤◌, Bool, true, false, leb, List, [], ◌∷◌, ◌++◌, length, get_or, drop, MatchBool, sym, ap, ◌∙◌, subst, arith, take-append-drop}
+use Rattle.std.proofs.lemmas.List.Edits.{length-between}
 use Rattle.std.proofs.lemmas.Bool.{leb-true, leb-false}
 use Rattle.std.proofs.lemmas.List.{drop_more, drop-drop, drop_all, length-drop}
 use Rattle.grammar.specs.Readings.{Reading, Reads}
 use Rattle.grammar.specs.Documents.{EndsLine, Unbroken, by, at_end, LineAt}
 use Rattle.grammar.specs.Scanner.{piece}
-use Rattle.grammar.proofs.Slices.{piece-none, piece-one, piece_join, piece-length}
+use Rattle.grammar.proofs.Slices.{piece-none, piece-one, piece_join}
 
 module _ (text : List ℕ) where
   unbroken_from : (n a e : ℕ) → e ≡ a + n → e ≤ length text → ((k : ℕ) → a ≤ k → k < e → EndsLine (get_or text k 0) → ⊥) → Unbroken (piece text a e)
@@ -41,7 +42,7 @@ module _ (text : List ℕ) where
         unbroken = unbroken_from (e - from) from e (omega arith) (omega arith) h;
         ended = by (get_or text e 0) c;
       };
-      next_is = omega (arith, piece-length text from e forward (omega arith));
+      next_is = omega (arith, length-between text from e (omega arith));
       reads = reads;
     }
 
@@ -55,6 +56,6 @@ module _ (text : List ℕ) where
         unbroken = unbroken_from (e - from) from e (omega arith) (omega arith) h;
         ended = at_end (drop_all e text (omega arith));
       };
-      next_is = omega (arith, piece-length text from e forward (omega arith));
+      next_is = omega (arith, length-between text from e (omega arith));
       reads = reads;
     }

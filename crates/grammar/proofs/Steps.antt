@@ -9,6 +9,7 @@ use Rattle.grammar.specs.Scanner as scan
 use Rattle.grammar.specs.Scanner.{Next, verb, thing, dot, Role, State, start, iri, label, before, string, at, tag, sub, ended, remark, dead, move, step, run, Sort, inner, between, done, slashes, escapes, letters, none, sort, plain, in_term, in_line, Stands, Slashed, in_iri, in_string, Halted, Halts, Stuck, StuckEscape, Ended, RunTo}
 use Rattle.grammar.proofs.Classes.{low_ranges, low-inside}
 use Rattle.grammar.proofs.Runs.{run-append}
+use Rattle.grammar.proofs.Slices.{run_rest}
 use Rattle.grammar.proofs.States.{where_passed}
 
 -- where no move is, no step is
@@ -77,8 +78,7 @@ module _ (s : State) (bs : List ℕ) (rs : List Range) (t : State) (h : Loops rs
   -- a run of at least one byte, of which the first leads to t
   pub run_enters : (u : State) (k e : ℕ) → RunTo rs bs k e → k < e → ((c : ℕ) → inside rs c ≡ true → step u c ≡ t) → Stands s bs k u → Stands s bs e t
   run_enters u k e r l m st =
-      stays (e - (k + 1)) (k + 1) e (omega arith) r.within (λ j a b. r.all j (omega arith) b)
-      (onward s bs k u t st (omega (arith, r.within)) (m (get_or bs k 0) (r.all k (omega arith) l)))
+      run-stays (k + 1) e (run_rest rs bs k e r l) (onward s bs k u t st (omega (arith, r.within)) (m (get_or bs k 0) (r.all k (omega arith) l)))
 
 -- after a term, blanks change nothing
 pub before-ended : (s : State) (bs : List ℕ) (k : ℕ) (n : Next) → Stands s bs k (before n) → Ended s bs k n
@@ -87,7 +87,7 @@ before-ended s bs k n h = record { state = before n; stands = h; over = refl; ne
 pub blanks-ended : (s : State) (bs : List ℕ) (k e : ℕ) (n : Next) → RunTo blank bs k e → Ended s bs k n → Ended s bs e n
 blanks-ended s bs k e n r h =
     ⊎_elim
-    (λ l. before-ended s bs e n (stays s bs blank (before n) (loops_before n) (e - (k + 1)) (k + 1) e (omega arith) r.within (λ j a b. r.all j (omega arith) b)
+    (λ l. before-ended s bs e n (run-stays s bs blank (before n) (loops_before n) (k + 1) e (run_rest blank bs k e r l)
     (onward s bs k h.state (before n) h.stands (omega (arith, r.within)) (h.next (omega (arith, r.within)) ∙ loops_before n (get_or bs k 0) (r.all k (omega arith) l)))))
     (λ l. subst (λ x. Ended s bs x n) (let z : k ≡ e = omega (arith, r.forward) in z) h)
     (cases_lt k e)

@@ -1,10 +1,11 @@
 -- Whole lines put together from their parts. Assumes nothing.
 use Rattle.std.proofs.Common.{◌≡◌, ℕ, ◌+◌, ◌<◌, ◌≤◌, List, [], ◌∷◌, ◌++◌, length, get_or, sym, refl, ap, ◌∙◌, inl, inr, append_assoc, append-nil, arith}
+use Rattle.std.proofs.lemmas.List.Edits.{length-between}
 use Rattle.grammar.specs.Regular.{◌then◌, Spells, Is}
 use Rattle.grammar.specs.Productions.{part, WS, comment, subject, predicate, object, rest, line}
 use Rattle.grammar.specs.Readings.{Term, Fits, Holds}
 use Rattle.grammar.specs.Scanner.{piece}
-use Rattle.grammar.proofs.Slices.{piece-one, piece_join, piece_whole, piece-length}
+use Rattle.grammar.proofs.Slices.{piece-one, piece_join, piece_whole}
 
 pub blank-line : (bs : List ℕ) → Spells WS bs → Spells (line part) bs
 blank-line bs h = (bs, [], sym (append-nil bs), h, ([], [], refl, inl refl, inl refl))
@@ -63,13 +64,13 @@ module _ (base : ℕ) (bs : List ℕ) (a b c d e f g : ℕ) (s p o : Term)
   pub build_holds : Is WS (piece bs 0 a) → Is WS (piece bs b c) → Is WS (piece bs d e) → Is WS (piece bs f g) → Fits (subject part) s → Fits (predicate part) p → Fits (object part) o
       → Is rest (piece bs (g + 1) (length bs)) → s.offset ≡ base + a → p.offset ≡ base + c → o.offset ≡ base + e → Holds base bs (base + a) s p o
   build_holds u v w t fs fp fo r so po oo =
-      let la = piece-length bs 0 a (omega arith) (omega arith) in
+      let la = length-between bs 0 a (omega arith) in
       let ls : length s.text ≡ length (piece bs a b) = ap length x in
-      let lb = piece-length bs a b i (omega arith) in
-      let lc = piece-length bs b c j (omega arith) in
+      let lb = length-between bs a b (omega arith) in
+      let lc = length-between bs b c (omega arith) in
       let lp : length p.text ≡ length (piece bs c d) = ap length y in
-      let ld = piece-length bs c d k (omega arith) in
-      let le = piece-length bs d e l (omega arith) in
+      let ld = length-between bs c d (omega arith) in
+      let le = length-between bs d e (omega arith) in
       let q = split-line bs a b c d e f g i j k l m n within dot in
       record {
         w₁ = piece bs 0 a;
