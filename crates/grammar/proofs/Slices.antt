@@ -1,9 +1,11 @@
 -- Pieces of a line, and what they spell. Assumes nothing.
 use Rattle.std.proofs.Common.{◌≡◌, ℕ, zero, suc, ◌+◌, ◌-◌, ◌<◌, ◌≤◌, true, List, [], ◌∷◌, ◌++◌, length, get_or, drop, sym, ap, ◌∙◌, subst, inl, append_assoc, append-nil, arith, take-add}
+use Rattle.std.proofs.lemmas.Bool.Decides.{nat_tests}
 use Rattle.std.proofs.lemmas.List.{drop-drop}
 use Rattle.std.proofs.lemmas.List.Edits.{between_none, between_more}
 use Rattle.std.proofs.lemmas.Slice.{between_to_end}
 use Rattle.grammar.specs.Regular.{Range, to, inside, Expr, one, ◌then◌, ◌or◌, many, Star, stop, more, Spells}
+use Rattle.grammar.specs.Productions.{byte}
 use Rattle.grammar.specs.Scanner.{piece, RunTo}
 
 pub piece-none : (bs : List ℕ) (a : ℕ) → piece bs a a ≡ []
@@ -34,14 +36,21 @@ pub run_rest : (rs : List Range) (bs : List ℕ) (k e : ℕ) → RunTo rs bs k e
 run_rest rs bs k e r l = record { forward = omega arith; within = r.within; all = λ j a b. r.all j (omega arith) b; past = r.past }
 
 module _ (bs : List ℕ) where
-  pub byte_at : (b k : ℕ) → k < length bs → get_or bs k 0 ≡ b → inside (to b b ∷ []) b ≡ true → Spells (one (to b b ∷ [])) (piece bs k (k + 1))
-  byte_at b k h e i = (get_or bs k 0, piece-one bs k h, ap (inside (to b b ∷ [])) e ∙ i)
-
   pub class_at : (rs : List Range) (k : ℕ) → k < length bs → inside rs (get_or bs k 0) ≡ true → Spells (one rs) (piece bs k (k + 1))
   class_at rs k h e = (get_or bs k 0, piece-one bs k h, e)
 
+  byte_at : (b k : ℕ) → k < length bs → get_or bs k 0 ≡ b → Spells (byte b) (piece bs k (k + 1))
+  byte_at b k h e = class_at (to b b ∷ []) k h (grind (arith, nat_tests))
+
   pub join : (A B : Expr) (a b c : ℕ) → a ≤ b → b ≤ c → Spells A (piece bs a b) → Spells B (piece bs b c) → Spells (A then B) (piece bs a c)
   join A B a b c h k x y = (piece bs a b, piece bs b c, piece_join bs a b c h k, x, y)
+
+  -- a byte before a piece, and one after it
+  pub byte_then : (b : ℕ) (B : Expr) (a e : ℕ) → a < length bs → get_or bs a 0 ≡ b → a + 1 ≤ e → Spells B (piece bs (a + 1) e) → Spells (byte b then B) (piece bs a e)
+  byte_then b B a e l q h x = join (byte b) B a (a + 1) e (omega arith) h (byte_at b a l q) x
+
+  pub then_byte : (A : Expr) (b a e : ℕ) → e < length bs → get_or bs e 0 ≡ b → a ≤ e → Spells A (piece bs a e) → Spells (A then byte b) (piece bs a (e + 1))
+  then_byte A b a e l q h x = join A (byte b) a e (e + 1) h (omega arith) x (byte_at b e l q)
 
   pub one_more : (A : Expr) (a b c : ℕ) → a ≤ b → b ≤ c → Spells (many A) (piece bs a b) → Spells A (piece bs b c) → Spells (many A) (piece bs a c)
   one_more A a b c h k x y = subst (Spells (many A)) (sym (piece_join bs a b c h k)) (star_join (Spells A) (piece bs a b) (piece bs b c) x (more (piece bs b c) [] (sym (append-nil (piece bs b c))) y stop))
