@@ -13,10 +13,8 @@ begins_shorter e p r (t, x) = (r ++ t, subst (Spells e) (append_assoc p r t) x)
 last_in : (p r q : List ℕ) (c : ℕ) → p ++ r ≡ q ++ c ∷ [] → (p ≡ q ++ c ∷ []) ⊎ ((s : List ℕ) × (q ≡ p ++ s))
 last_in [] r q c e = inr (q, refl)
 last_in (x ∷ []) r [] c e = inl (cc)
-last_in (x ∷ y ∷ p) r [] c e = let z : ◌≡◌ {A = ℕ} 0 1 = cc in absurd (omega arith)
-last_in (x ∷ p) r (y ∷ q) c e =
-    let t : p ++ r ≡ q ++ c ∷ [] = cc in
-    ⊎_elim (λ h. inl (cc)) (λ h. inr (h.0, cc h.1)) (last_in p r q c t)
+last_in (x ∷ y ∷ p) r [] c e = absurd (cc)
+last_in (x ∷ p) r (y ∷ q) c e = ⊎_elim (λ h. inl (cc)) (λ h. inr (h.0, cc h.1)) (last_in p r q c (cc))
 
 module _ (whole ours : Expr) where
   pub goes_on_shorter : (p r : List ℕ) → GoesOn whole ours (p ++ r) → GoesOn whole ours p

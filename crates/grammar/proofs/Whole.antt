@@ -47,15 +47,19 @@ holds_line base bs at s p o h = go h.tail h.ends h.split
 pub split-line : (bs : List ℕ) (a b c d e f g : ℕ) → a ≤ b → b ≤ c → c ≤ d → d ≤ e → e ≤ f → f ≤ g → g < length bs → get_or bs g 0 ≡ 46
     → bs ≡ piece bs 0 a ++ (piece bs a b ++ (piece bs b c ++ (piece bs c d ++ (piece bs d e ++ (piece bs e f ++ (piece bs f g ++ 46 ∷ piece bs (g + 1) (length bs)))))))
 split-line bs a b c d e f g i j k l m n o q =
-    sym (piece_whole bs) ∙ piece_join bs 0 a (length bs) (omega arith) (omega arith)
-    ∙ ap (λ u. piece bs 0 a ++ u) (piece_join bs a b (length bs) i (omega arith)
-    ∙ ap (λ u. piece bs a b ++ u) (piece_join bs b c (length bs) j (omega arith)
-    ∙ ap (λ u. piece bs b c ++ u) (piece_join bs c d (length bs) k (omega arith)
-    ∙ ap (λ u. piece bs c d ++ u) (piece_join bs d e (length bs) l (omega arith)
-    ∙ ap (λ u. piece bs d e ++ u) (piece_join bs e f (length bs) m (omega arith)
-    ∙ ap (λ u. piece bs e f ++ u) (piece_join bs f g (length bs) n (omega arith)
-    ∙ ap (λ u. piece bs f g ++ u) (piece_join bs g (g + 1) (length bs) (omega arith) (omega arith)
-    ∙ ap (λ u. u ++ piece bs (g + 1) (length bs)) (piece-one bs g o ∙ ap (λ x. x ∷ []) q))))))))
+    let z = length bs in
+    cc (
+      piece_whole bs,
+      piece_join bs 0 a z (omega arith) (omega arith),
+      piece_join bs a b z i (omega arith),
+      piece_join bs b c z j (omega arith),
+      piece_join bs c d z k (omega arith),
+      piece_join bs d e z l (omega arith),
+      piece_join bs e f z m (omega arith),
+      piece_join bs f g z n (omega arith),
+      piece_join bs g (g + 1) z (omega arith) (omega arith),
+      piece-one bs g o,
+    )
 
 -- a triple from the ends of its parts
 module _ (base : ℕ) (bs : List ℕ) (a b c d e f g : ℕ) (s p o : Term)
