@@ -1,5 +1,5 @@
 -- Whole lines put together from their parts. Assumes nothing.
-use Rattle.std.proofs.Common.{◌≡◌, ℕ, ◌+◌, ◌<◌, ◌≤◌, List, [], ◌∷◌, ◌++◌, length, get_or, sym, refl, ap, ◌∙◌, inl, inr, append_assoc, append-nil, arith}
+use Rattle.std.proofs.Common.{◌≡◌, ℕ, ◌+◌, ◌<◌, ◌≤◌, List, [], ◌∷◌, ◌++◌, length, get_or, sym, refl, ap, inl, inr, append_assoc, append-nil, arith}
 use Rattle.std.proofs.lemmas.List.Edits.{length-between}
 use Rattle.grammar.specs.Regular.{◌then◌, Spells, Is}
 use Rattle.grammar.specs.Productions.{part, WS, comment, subject, predicate, object, rest, line}
@@ -14,32 +14,25 @@ pub comment-line : (bs : List ℕ) → Spells (WS then comment) bs → Spells (l
 comment-line bs (w, c, e, x, y) = (w, c, e, x, ([], c, refl, inl refl, inr y))
 
 pub holds_line : (base : ℕ) (bs : List ℕ) (at : ℕ) (s p o : Term) → Holds base bs at s p o → Spells (line part) bs
-holds_line base bs at s p o h = go h.tail h.ends h.split
-  where
-    t : List ℕ
-    t = s.text ++ (h.w₂ ++ (p.text ++ (h.w₃ ++ (o.text ++ (h.w₄ ++ 46 ∷ [])))))
-
-    moved : (u : List ℕ) → s.text ++ (h.w₂ ++ (p.text ++ (h.w₃ ++ (o.text ++ (h.w₄ ++ 46 ∷ u))))) ≡ (s.text ++ (h.w₂ ++ (p.text ++ (h.w₃ ++ (o.text ++ (h.w₄ ++ 46 ∷ [])))))) ++ u
-    moved u = sym (simp append_assoc)
-
-    go : (u : List ℕ) → Spells rest u → bs ≡ h.w₁ ++ (s.text ++ (h.w₂ ++ (p.text ++ (h.w₃ ++ (o.text ++ (h.w₄ ++ 46 ∷ u)))))) → Spells (line part) bs
-    go u (w, c, e, x, y) q = (
+holds_line base bs at s p o h =
+    let r = h.ends in
+    let t = s.text ++ (h.w₂ ++ (p.text ++ (h.w₃ ++ (o.text ++ (h.w₄ ++ 46 ∷ []))))) in (
       h.w₁,
-      (t ++ w) ++ c,
-      q ∙ ap (λ l. h.w₁ ++ l) (moved u ∙ ap (λ l. t ++ l) e ∙ sym (append_assoc t w c)),
+      (t ++ r.0) ++ r.1,
+      simp append_assoc (rw r.2 at h.split),
       h.blanks.0,
       (
-        t ++ w,
-        c,
+        t ++ r.0,
+        r.1,
         refl,
         inr (
           t,
-          w,
+          r.0,
           refl,
           (s.text, _, refl, h.is_subject.allowed, (h.w₂, _, refl, h.blanks.1, (p.text, _, refl, h.is_predicate.allowed, (h.w₃, _, refl, h.blanks.2, (o.text, _, refl, h.is_object.allowed, (h.w₄, 46 ∷ [], refl, h.blanks.3, (46, refl, refl))))))),
-          x,
+          r.3,
         ),
-        y,
+        r.4,
       ),
     )
 
