@@ -92,7 +92,7 @@ pub nullable_in : (e : Expr) → Spells e [] → nullable e ≡ true
 nullable_in never h = absurd h
 nullable_in empty h = refl
 nullable_in (one rs) (c, e, h) = absurd (cc)
-nullable_in (a then b) ([], t, e, x, y) = and_from _ _ (nullable_in a x) (nullable_in b (subst (Spells b) (sym e) y))
+nullable_in (a then b) ([], t, e, x, y) = and_from _ _ (nullable_in a x) (nullable_in b (rw e y))
 nullable_in (a then b) (c ∷ s, t, e, x, y) = absurd (cc)
 nullable_in (a or b) h = ⊎_elim (λ x. or_left _ _ (nullable_in a x)) (λ x. or_right (nullable a) _ (nullable_in b x)) h
 nullable_in (many a) h = refl
@@ -128,7 +128,7 @@ then_is a b c true e f g u = (out, in')
         ((alt_is (seq (der c a) b) (der c b) u).1 h)
 
     in' : Spells (a then b) (c ∷ u) → Spells (alt (seq (der c a) b) (der c b)) u
-    in' ([], t, q, x, y) = (alt_is (seq (der c a) b) (der c b) u).0 (inr ((g u).1 (subst (Spells b) (sym q) y)))
+    in' ([], t, q, x, y) = (alt_is (seq (der c a) b) (der c b) u).0 (inr ((g u).1 (rw q y)))
     in' (d ∷ s, t, q, x, y) = (alt_is (seq (der c a) b) (der c b) u).0 (inl (then_back a b (der c a) c d u s t f q x y))
 then_is a b c false e f g u = (λ h. then_front a b (der c a) c u f h, in')
   where

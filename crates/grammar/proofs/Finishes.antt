@@ -1,5 +1,5 @@
 -- How a line can go on from a state: a string that ends it, and the letter of \u or \U after a backslash. Assumes nothing.
-use Rattle.std.proofs.Common.{◌≡◌, ℕ, true, ◌⊎◌, List, [], ◌∷◌, refl, ap, subst, inl, inr, append-nil}
+use Rattle.std.proofs.Common.{◌≡◌, ℕ, true, ◌⊎◌, List, [], ◌∷◌, refl, ap, inl, inr, append-nil}
 use Rattle.grammar.specs.Regular.{Expr, never, Spells}
 use Rattle.grammar.specs.Productions.{full, part}
 use Rattle.grammar.specs.Scanner.{Next, verb, thing, dot, first, last, State, start, iri, slash, under, colon, label, before, string, escape, quoted, at, tag, hyphen, sub, caret, carets, ended, remark, uchar, dead, step, sort, plain, Slashed, in_iri, in_string}
@@ -38,7 +38,7 @@ finish uchar = []
 finish dead = []
 
 computed : (u : List ℕ) (e : Expr) → nullable (ders u e) ≡ true → Spells e u
-computed u e h = subst (Spells e) (append-nil u) (ders_out u [] e (nullable_out (ders u e) h))
+computed u e h = rw append-nil at (ders_out u [] e (nullable_out (ders u e) h))
 
 pub plain_goes : (s : State) → plain (sort s) ≡ true → (u : List ℕ) × Spells (left part s) u
 plain_goes s h =

@@ -1,5 +1,5 @@
 -- Where the states halt, a line of the grammar stops. Assumes nothing.
-use Rattle.std.proofs.Common.{◌≡◌, ℕ, ◌+◌, ◌<◌, true, not, ◌⊎◌, List, [], ◌∷◌, ◌++◌, length, get_or, take, sym, refl, ap, ◌∙◌, subst, inl, inr, ⊎_elim, append_assoc, append-nil, arith}
+use Rattle.std.proofs.Common.{◌≡◌, ℕ, ◌+◌, ◌<◌, true, not, ◌⊎◌, List, [], ◌∷◌, ◌++◌, length, get_or, take, sym, refl, ap, ◌∙◌, inl, inr, ⊎_elim, append_assoc, append-nil, arith}
 use Rattle.std.proofs.lemmas.List.{take_all, take_more, same_from_push}
 use Rattle.grammar.specs.Regular.{Expr, never, Spells, Begins}
 use Rattle.grammar.specs.Productions.{full, part, line}
@@ -18,7 +18,7 @@ slashed-lives s bs k t (in_iri n j a b x y) = refl
 slashed-lives s bs k t in_string = refl
 
 next_byte : (bs : List ℕ) (k : ℕ) (e : Expr) → k < length bs → Begins e (take (k + 1) bs) → (q : List ℕ) × Spells e (take k bs ++ get_or bs k 0 ∷ q)
-next_byte bs k e l (q, x) = (q, subst (Spells e) (ap (λ z. z ++ q) (take_more bs k 0 l) ∙ append_assoc (take k bs) (get_or bs k 0 ∷ []) q) x)
+next_byte bs k e l (q, x) = (q, rw (take_more bs k 0 l, append_assoc) at x)
 
 module _ (bs : List ℕ) (k : ℕ) (t : State) (st : Stands start bs k t) where
   begins-part : plain (sort t) ≡ true → Begins (line part) (take k bs)
@@ -58,10 +58,10 @@ module _ (bs : List ℕ) (k : ℕ) (t : State) (st : Stands start bs k t) where
     next-full v h = let n = next_byte bs k (line full) l h in (n.0, left-full start bs k t st (get_or bs k 0 ∷ n.0) (lives_at v) n.1)
 
     no_part : left part (step t (get_or bs k 0)) ≡ never → Begins (line part) (take (k + 1) bs) → ⊥
-    no_part d h = let n = next-part h in subst (λ e. Spells e n.0) d (step_in part t (get_or bs k 0) n.0 (λ e. cc) n.1)
+    no_part d h = let n = next-part h in rw d at (step_in part t (get_or bs k 0) n.0 (λ e. cc) n.1)
 
     no_full : (plain (sort t) ≡ true) ⊎ Slashed start bs k t → step t (get_or bs k 0) ≡ dead → Begins (line full) (take (k + 1) bs) → ⊥
-    no_full v d h = let n = next-full v h in subst (λ s. Spells (left full s) n.0) d (step_in full t (get_or bs k 0) n.0 (λ _. ap (λ s. lettered (sort s)) d) n.1)
+    no_full v d h = let n = next-full v h in rw d at (step_in full t (get_or bs k 0) n.0 (λ _. ap (λ s. lettered (sort s)) d) n.1)
 
   goes_not : (n : ℕ) → (plain (sort t) ≡ true) ⊎ Slashed start bs k t → Halted in_line start bs k t n → k < length bs → GoesOn (line full) (line part) (take (k + 1) bs) → ⊥
   goes_not n v (scan.high l h) m (begins x) = let z = next-part m x in omega (arith, left-low part t (get_or bs k 0) z.0 z.1)
@@ -79,14 +79,14 @@ module _ (bs : List ℕ) (k : ℕ) (t : State) (st : Stands start bs k t) where
   ends_not n (scan.unicode l s u) e x = omega arith
   ends_not n (scan.other l h d) e x = omega arith
   ends_not n (scan.short q h) e x =
-      let w : Spells (line part) (take k bs ++ []) = subst (Spells (line part)) (sym (append-nil (take k bs) ∙ take_all k bs (omega arith))) x in
+      let w : Spells (line part) (take k bs ++ []) = rw (append-nil, take_all k bs (omega arith)) x in
       let y = left-part start bs k t st [] w in
       let z = where_passed (λ s. in_line (sort s)) (λ s. not (nullable (left part s))) refl t h in
       cc (nullable_in (left part t) y)
 
   reason : (n : ℕ) → (plain (sort t) ≡ true) ⊎ Slashed start bs k t → Halted in_line start bs k t n → Why (line full) bs k n
   reason n v (scan.high l h) = high l h
-  reason n v (scan.unicode l s e) = unicode l e (subst (Begins (line full)) (sym (take_more bs k 0 l)) (begins-full (get_or bs k 0) s e))
+  reason n v (scan.unicode l s e) = unicode l e (rw (take_more bs k 0 l) (begins-full (get_or bs k 0) s e))
   reason n v (scan.other l h d) = other l h (no_full l v d)
   reason n v (scan.short e h) = short e
 

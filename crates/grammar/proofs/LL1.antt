@@ -28,16 +28,15 @@ ll1 (many a) fs = apart (firsts a []) fs && ll1 a (firsts a [] ++ fs)
 first-many : (L : List ℕ → Type 0) (rs fs : List Range) (u x : List ℕ) → ((c : ℕ) (s : List ℕ) → L (c ∷ s) → In rs c)
     → Star L u → First (In fs) x → First (In (rs ++ fs)) (u ++ x)
 first-many L rs fs u x b stop f = first_right rs fs x f
-first-many L rs fs u x b (more [] t e h k) f = subst (λ l. First (In (rs ++ fs)) (l ++ x)) (sym e) (first-many L rs fs t x b k f)
-first-many L rs fs u x b (more (c ∷ s) t e h k) f = subst (λ l. First (In (rs ++ fs)) (l ++ x)) (sym e) (in_left rs fs c (b c s h))
+first-many L rs fs u x b (more [] t e h k) f = rw e (first-many L rs fs t x b k f)
+first-many L rs fs u x b (more (c ∷ s) t e h k) f = rw e (in_left rs fs c (b c s h))
 
 -- firsts is sound
 pub begin : (e : Expr) (fs : List Range) (u x : List ℕ) → Spells e u → First (In fs) x → First (In (firsts e fs)) (u ++ x)
 begin never fs u x h f = absurd h
-begin empty fs u x h f = subst (λ l. First (In fs) (l ++ x)) (sym h) f
-begin (one rs) fs u x (c, e, h) f = subst (λ l. First (In rs) (l ++ x)) (sym e) h
-begin (a then b) fs u x (s, t, e, h, k) f =
-    subst (First (In (firsts (a then b) fs))) (sym (append_assoc s t x) ∙ ap (λ l. l ++ x) (sym e)) (begin a (firsts b fs) s (t ++ x) h (begin b fs t x k f))
+begin empty fs u x h f = rw h f
+begin (one rs) fs u x (c, e, h) f = rw e h
+begin (a then b) fs u x (s, t, e, h, k) f = rw (e, append_assoc) (begin a (firsts b fs) s (t ++ x) h (begin b fs t x k f))
 begin (a or b) fs u x (inl h) f = first-left (firsts a fs) (firsts b fs) (u ++ x) (begin a fs u x h f)
 begin (a or b) fs u x (inr h) f = first_right (firsts a fs) (firsts b fs) (u ++ x) (begin b fs u x h f)
 begin (many a) fs u x h f = first-many (Spells a) (firsts a []) fs u x (λ c s k. begin a [] (c ∷ s) [] k tt) h f
@@ -56,7 +55,7 @@ nil_parts (c ∷ u) x e = absurd (cc)
 -- the strings are empty if the classes that they begin with are apart
 cuts-apart : (rs ss : List Range) (u v x y : List ℕ) → apart rs ss ≡ true → First (In rs) (u ++ x) → First (In ss) (v ++ y) → u ++ x ≡ v ++ y → (u ≡ v) × (x ≡ y)
 cuts-apart rs ss u v x y h f g e =
-    let n = neither rs ss (u ++ x) h f (subst (First (In ss)) (sym e) g) in
+    let n = neither rs ss (u ++ x) h f (rw e g) in
     let p = nil_parts u x n in
     let q = nil_parts v y (sym e ∙ n) in
     (cc (p.0, q.0), cc (p.1, q.1))

@@ -13,7 +13,7 @@ module _ (text : List ℕ) where
   unbroken_from zero a e q l h = subst Unbroken (sym (piece-none text a) ∙ ap (piece text a) (let z : a ≡ e = omega arith in z)) tt
   unbroken_from (suc n) a e q l h =
       let p : piece text a e ≡ get_or text a 0 ∷ piece text (a + 1) e = cc (piece_join text a (a + 1) e (omega arith) (omega arith), piece-one text a (omega arith)) in
-      subst Unbroken (sym p) (h a (omega arith) (omega arith), unbroken_from n (a + 1) e (omega arith) l (λ k i j. h k (omega arith) j))
+      rw p (h a (omega arith) (omega arith), unbroken_from n (a + 1) e (omega arith) l (λ k i j. h k (omega arith) j))
 
   drop-piece : (a e : ℕ) → a ≤ e → drop a text ≡ piece text a e ++ drop e text
   drop-piece a e h = append_cancel_left (take a text) _ _ (take-append-drop a text ∙ split_between text a e h)

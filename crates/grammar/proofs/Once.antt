@@ -1,5 +1,5 @@
 -- A string stops at one place, with one refusal number. Assumes nothing.
-use Rattle.std.proofs.Common.{◌≡◌, ℕ, ◌+◌, ◌<◌, ◌≤◌, ◌⊎◌, List, [], ◌∷◌, ◌++◌, length, take, drop, sym, refl, subst, inl, inr, ⊎_elim, arith}
+use Rattle.std.proofs.Common.{◌≡◌, ℕ, ◌+◌, ◌<◌, ◌≤◌, ◌⊎◌, List, [], ◌∷◌, ◌++◌, length, take, drop, refl, subst, inl, inr, ⊎_elim, arith}
 use Rattle.std.proofs.lemmas.Bool.{cases_order}
 use Rattle.std.proofs.lemmas.List.{append_assoc, take-append-drop, take-take}
 use Rattle.grammar.specs.Regular.{Expr, Spells, Begins}
@@ -7,7 +7,7 @@ use Rattle.grammar.specs.Places.{GoesOn, begins, slashed, Why, high, unicode, ot
 
 -- a prefix of what begins a string begins it
 pub begins_shorter : (e : Expr) (p r : List ℕ) → Begins e (p ++ r) → Begins e p
-begins_shorter e p r (t, x) = (r ++ t, subst (Spells e) (append_assoc p r t) x)
+begins_shorter e p r (t, x) = (r ++ t, rw append_assoc at x)
 
 -- a prefix of a list with one more byte is all of it, or a prefix of the list
 last_in : (p r q : List ℕ) (c : ℕ) → p ++ r ≡ q ++ c ∷ [] → (p ≡ q ++ c ∷ []) ⊎ ((s : List ℕ) × (q ≡ p ++ s))
@@ -64,7 +64,7 @@ module _ (whole ours : Expr) where
   pub one-stop : (bs : List ℕ) (k n l m : ℕ) → Stops whole ours bs k n → Stops whole ours bs l m → (k ≡ l) × (n ≡ m)
   one-stop bs k n l m s t =
       ⊎_elim
-      (λ e. (e, same-why bs l n m (subst (λ x. Why whole bs x n) e s.why) t.why))
+      (λ e. (e, same-why bs l n m (rw e at s.why) t.why))
       (⊎_elim (λ h. absurd (earlier bs k n l m h s t)) (λ h. absurd (earlier bs l m k n h t s)))
       (cases_order k l)
 
@@ -75,6 +75,6 @@ module _ (whole ours : Expr) where
       ⊎_elim
       (λ e. s.end e x)
       (⊎_elim
-      (λ h. s.here h (begins (drop (k + 1) bs, subst (Spells ours) (sym (take-append-drop (k + 1) bs)) x)))
+      (λ h. s.here h (begins (drop (k + 1) bs, rw take-append-drop x)))
       (λ h. omega arith))
       (cases_order k (length bs))

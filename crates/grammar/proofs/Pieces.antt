@@ -1,5 +1,5 @@
 -- A string is cut in one way into pieces that a list of expressions spells. Assumes nothing.
-use Rattle.std.proofs.Common.{◌≡◌, ℕ, true, false, List, [], ◌∷◌, ◌++◌, sym, refl, ◌∙◌, subst, inl, inr}
+use Rattle.std.proofs.Common.{◌≡◌, ℕ, true, false, List, [], ◌∷◌, ◌++◌, sym, refl, ◌∙◌, inl, inr}
 use Rattle.std.specs.List.{concat, AllZip}
 use Rattle.std.proofs.lemmas.List.{append-nil}
 use Rattle.std.proofs.lemmas.Bool.{and_parts}
@@ -21,7 +21,7 @@ pieces_spell (e ∷ es) (u ∷ us) p = (u, concat us, refl, p.0, pieces_spell es
 
 -- what an expression spells begins with one of its first bytes
 pub begins_in : (e : Expr) (u : List ℕ) → Spells e u → First (In (firsts e [])) u
-begins_in e u h = subst (First (In (firsts e []))) (append-nil u) (begin e [] u [] h tt)
+begins_in e u h = rw append-nil at (begin e [] u [] h tt)
 
 -- two parts of a string
 pub one_split : (a b : Expr) (s t s' t' : List ℕ) → ll1 a (firsts b []) ≡ true
@@ -44,11 +44,11 @@ same_pieces (a ∷ es) (u ∷ us) (v ∷ vs) l p q e =
 pub not_both : (a b : Expr) (u : List ℕ) → apart (firsts a []) (firsts b []) ≡ true → nullable a ≡ false → Spells a u → Spells b u → ⊥
 not_both a b u h n x y =
     let e = neither (firsts a []) (firsts b []) u h (begins_in a u x) (begins_in b u y) in
-    cc (nullable_in a (subst (Spells a) e x))
+    cc (nullable_in a (rw e at x))
 
 -- nor after a string of a third
 pub not_both-after : (w a b : Expr) (u : List ℕ) → ll1 w (firsts (a or b) []) ≡ true
     → apart (firsts a []) (firsts b []) ≡ true → nullable a ≡ false → Spells (w then a) u → Spells (w then b) u → ⊥
 not_both-after w a b u l h n (s, t, e, x, y) (s', t', e', x', y') =
     let c = one_split w (a or b) s t s' t' l x (inl y) x' (inr y') (sym e ∙ e') in
-    not_both a b t h n y (subst (Spells b) (sym c.1) y')
+    not_both a b t h n y (rw c.1 y')

@@ -35,19 +35,19 @@ module _ (bs : List ℕ) (h : Spells (object part) bs) where
   rest_at k t st l =
       let v = drop (k + 1) bs ++ 46 ∷ [] in
       let e : bs ++ 46 ∷ [] ≡ take k bs ++ get_or bs k 0 ∷ v = cc (take-append-drop k bs, drop_more bs k 0 l, append_assoc (take k bs) (get_or bs k 0 ∷ drop (k + 1) bs) (46 ∷ [])) in
-      (v, left-part (before thing) bs k t st (get_or bs k 0 ∷ v) (subst (Spells (left part (before thing))) e (with_dot bs h)))
+      (v, left-part (before thing) bs k t st (get_or bs k 0 ∷ v) (rw e at (with_dot bs h)))
 
   goes-dead : (k : ℕ) (t : State) → Stands (before thing) bs k t → k < length bs → left part (step t (get_or bs k 0)) ≡ never → ⊥
   goes-dead k t st l d =
       let r = rest_at k t st l in
-      subst (λ e. Spells e r.0) d (step_in part t (get_or bs k 0) r.0 (λ e. cc) r.1)
+      rw d at (step_in part t (get_or bs k 0) r.0 (λ e. cc) r.1)
 
   halted : (k n : ℕ) (t : State) → Stands (before thing) bs k t → Halted in_term (before thing) bs k t n → ⊥
   halted k n t st (scan.high l c) = let r = rest_at k t st l in omega (arith, left-low part t (get_or bs k 0) r.0 r.1)
   halted k n t st (scan.unicode l s e) = goes-dead k t st l (letter-stops (before thing) bs k t (get_or bs k 0) s e)
   halted k n t st (scan.other l c d) = goes-dead k t st l (ap (left part) d)
   halted k n t st (scan.short e i) =
-      let w = subst (λ l. Spells (left part (before thing)) (l ++ 46 ∷ [])) (sym (take_all k bs (omega arith))) (with_dot bs h) in
+      let w : Spells (left part (before thing)) (take k bs ++ 46 ∷ []) = rw (take_all k bs (omega arith)) (with_dot bs h) in
       let x = left-part (before thing) bs k t st (46 ∷ []) w in
       let z = where_passed (λ s. in_term (sort s)) (λ s. not (nullable (der 46 (left part s)))) refl t i in
       cc (nullable_in (der 46 (left part t)) ((der_is 46 (left part t) []).1 x))
@@ -74,7 +74,7 @@ module _ (e : Expr) (wide : (u : List ℕ) → Spells e u → Spells (object par
   pub not_all : (k : ℕ) → k ≤ length bs → Is e (piece bs 0 k) → Ended (before thing) bs k dot → eqb k (length bs) ≡ false → Is e bs → ⊥
   not_all k l h x q i =
       let n = eqb-false k (length bs) q in
-      not_longer bs (wide bs i.spelled) k x (omega arith) (wide (take k bs) (subst (Spells e) (between_from_start bs k) h.spelled))
+      not_longer bs (wide bs i.spelled) k x (omega arith) (wide (take k bs) (rw (between_from_start bs k) at h.spelled))
 
   pub not_stuck : (k n : ℕ) → Halts in_term (before thing) bs k n → Is e bs → ⊥
   not_stuck k n x i = not_halted bs (wide bs i.spelled) k n x

@@ -1,5 +1,5 @@
 -- What is left of the grammar along a run of the states. Assumes nothing.
-use Rattle.std.proofs.Common.{◌≡◌, ℕ, ◌<◌, ◌≤◌, Bool, true, false, not, ◌||◌, leb, List, [], ◌∷◌, ◌++◌, take, sym, refl, ap, ◌∙◌, subst, ⊎_elim, arith}
+use Rattle.std.proofs.Common.{◌≡◌, ℕ, ◌<◌, ◌≤◌, Bool, true, false, not, ◌||◌, leb, List, [], ◌∷◌, ◌++◌, take, refl, ⊎_elim, arith}
 use Rattle.std.proofs.lemmas.Bool.{cases_lt, cond-false, cond_both, or_cases, not-true}
 use Rattle.std.proofs.lemmas.Bool.Decides.{nat_tests}
 use Rattle.grammar.specs.Regular.{Expr, never, Spells}
@@ -34,7 +34,7 @@ skip_out full s e u h = cond_both (lettered (sort s)) never e (λ d. Spells d u 
 
 skip_in : (x : Extent) (s : State) (e : Expr) (u : List ℕ) → (x ≡ full → lettered (sort s) ≡ false) → Spells e u → Spells (skipped x s e) u
 skip_in part s e u o h = h
-skip_in full s e u o h = subst (λ d. Spells d u) (sym (cond-false (lettered (sort s)) never e (o refl))) h
+skip_in full s e u o h = rw (cond-false (lettered (sort s)) never e (o refl)) h
 
 left_low_firsts : (x : Extent) (s : State) → low_ranges (firsts (left x s) []) ≡ true
 left_low_firsts full s = every (λ t. low_ranges (firsts (left full t) [])) refl s
@@ -47,12 +47,12 @@ left-low x s c u h = low-inside (firsts (left x s) []) c (left_low_firsts x s) (
 step_out : (x : Extent) (s : State) (c : ℕ) (u : List ℕ) → Spells (left x (step s c)) u → Spells (left x s) (c ∷ u)
 step_out x s c u h =
     ⊎_elim
-    (λ l. (der_is c (left x s) u).0 (skip_out x (step s c) _ u (subst (λ e. Spells e u) (sym (row_at x s c l)) h)))
-    (λ l. absurd (subst (λ t. Spells (left x t) u) (step-high s c l) h))
+    (λ l. (der_is c (left x s) u).0 (skip_out x (step s c) _ u (rw (row_at x s c l) h)))
+    (λ l. absurd (rw (step-high s c l) at h))
     (cases_lt c 128)
 
 pub step_in : (x : Extent) (s : State) (c : ℕ) (u : List ℕ) → (x ≡ full → lettered (sort (step s c)) ≡ false) → Spells (left x s) (c ∷ u) → Spells (left x (step s c)) u
-step_in x s c u o h = subst (λ e. Spells e u) (row_at x s c (left-low x s c u h)) (skip_in x (step s c) _ u o ((der_is c (left x s) u).1 h))
+step_in x s c u o h = rw (row_at x s c (left-low x s c u h)) at (skip_in x (step s c) _ u o ((der_is c (left x s) u).1 h))
 
 run_out : (x : Extent) (s : State) (p u : List ℕ) → Spells (left x (run s p)) u → Spells (left x s) (p ++ u)
 run_out x s [] u h = h
@@ -85,10 +85,10 @@ run-append s (c ∷ p) q = run-append (step s c) p q
 -- what is left at the state that the first k bytes lead to
 module _ (s : State) (bs : List ℕ) (k : ℕ) (t : State) (st : Stands s bs k t) (u : List ℕ) where
   pub left_out : (x : Extent) → Spells (left x t) u → Spells (left x s) (take k bs ++ u)
-  left_out x h = run_out x s (take k bs) u (subst (λ a. Spells (left x a) u) (sym st) h)
+  left_out x h = run_out x s (take k bs) u (rw st h)
 
   pub left-part : Spells (left part s) (take k bs ++ u) → Spells (left part t) u
-  left-part h = subst (λ a. Spells (left part a) u) st (run-part s (take k bs) u h)
+  left-part h = rw st at (run-part s (take k bs) u h)
 
   pub left-full : lives (sort t) ≡ true → Spells (left full s) (take k bs ++ u) → Spells (left full t) u
-  left-full l h = subst (λ a. Spells (left full a) u) st (run-full s (take k bs) u (ap (λ a. lives (sort a)) st ∙ l) h)
+  left-full l h = rw st at (run-full s (take k bs) u (rw st l) h)

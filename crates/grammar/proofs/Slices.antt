@@ -53,10 +53,10 @@ module _ (bs : List ℕ) where
   then_byte A b a e l q h x = join A (byte b) a e (e + 1) h (omega arith) x (byte_at b e l q)
 
   pub one_more : (A : Expr) (a b c : ℕ) → a ≤ b → b ≤ c → Spells (many A) (piece bs a b) → Spells A (piece bs b c) → Spells (many A) (piece bs a c)
-  one_more A a b c h k x y = subst (Spells (many A)) (sym (piece_join bs a b c h k)) (star_join (Spells A) (piece bs a b) (piece bs b c) x (more (piece bs b c) [] (sym (append-nil (piece bs b c))) y stop))
+  one_more A a b c h k x y = rw (piece_join bs a b c h k) (star_join (Spells A) (piece bs a b) (piece bs b c) x (more (piece bs b c) [] (sym (append-nil (piece bs b c))) y stop))
 
   pub none_yet : (A : Expr) (a : ℕ) → Spells (many A) (piece bs a a)
-  none_yet A a = subst (Spells (many A)) (sym (piece-none bs a)) stop
+  none_yet A a = rw (piece-none bs a) stop
 
   run_from : (rs : List Range) (n k e : ℕ) → e ≡ k + n → e ≤ length bs → ((j : ℕ) → k ≤ j → j < e → inside rs (get_or bs j 0) ≡ true) → Spells (many (one rs)) (piece bs k e)
   run_from rs zero k e q l i = subst (λ x. Spells (many (one rs)) (piece bs k x)) (let z : k ≡ e = omega arith in z) (none_yet (one rs) k)
@@ -70,7 +70,7 @@ module _ (bs : List ℕ) where
   -- a run of a class as units of a wider kind
   pub run-units : (rs : List Range) (B : Expr) (a k e : ℕ) → a ≤ k → RunTo rs bs k e → Spells (many (one rs or B)) (piece bs a k) → Spells (many (one rs or B)) (piece bs a e)
   run-units rs B a k e h r x =
-      subst (Spells (many (one rs or B))) (sym (piece_join bs a k e h r.forward))
+      rw (piece_join bs a k e h r.forward)
       (star_join (Spells (one rs or B)) (piece bs a k) (piece bs k e) x (star_wider (Spells (one rs)) (Spells (one rs or B)) (piece bs k e) (λ s y. inl y) (run_spells rs k e r)))
 
   -- at least one byte of a class

@@ -1,10 +1,10 @@
 -- A line is read in one way, and so is a document, which its lines make up. Assumes nothing.
-use Rattle.std.proofs.Common.{◌≡◌, ℕ, ◌+◌, List, [], ◌∷◌, ◌++◌, length, drop, sym, refl, ◌∙◌, subst, rules}
+use Rattle.std.proofs.Common.{◌≡◌, ℕ, ◌+◌, List, [], ◌∷◌, ◌++◌, length, drop, sym, refl, ◌∙◌, rules}
 use Rattle.std.proofs.lemmas.List.{append-nil}
 use Rattle.std.specs.List.{AllByRecursion, AllZip, concat}
 use Rattle.grammar.specs.Regular.{Expr, empty, ◌then◌, Spells}
 use Rattle.grammar.specs.Productions.{part, full, byte, WS, comment, subject, predicate, object, rest, line}
-use Rattle.grammar.specs.Readings.{production, Term, Reading, a_triple, a_comment, nothing, a_fault, Fits, Holds, Reads}
+use Rattle.grammar.specs.Readings.{Term, Reading, a_triple, a_comment, nothing, a_fault, Fits, Holds, Reads}
 use Rattle.grammar.specs.Documents.{EndsLine, Unbroken, Ending, by, at_end, Cut, LineAt, Row, Lines, none, more, joined}
 use Rattle.grammar.proofs.Once.{one-stop, served}
 use Rattle.grammar.proofs.Spans.{First, one-run}
@@ -18,7 +18,7 @@ after-blanks = subject part ∷ WS ∷ predicate part ∷ WS ∷ object part ∷
 -- terms that fit and have equal texts and offsets are equal
 same_term : (e f : Expr) (s t : Term) → Fits e s → Fits f t → s.text ≡ t.text → s.offset ≡ t.offset → s ≡ t
 same_term e f s t h k p q =
-    let r = one-kind s.kind t.kind t.text (subst (Spells (production s.kind)) p h.of_kind) k.of_kind in
+    let r = one-kind s.kind t.kind t.text (rw p at h.of_kind) k.of_kind in
     search rules
 
 -- the parts of a line with a triple
@@ -88,7 +88,7 @@ unbroken-all (c ∷ u) h = (h.0, unbroken-all u h.1)
 
 ending-first : (e a : List ℕ) → Ending a e → First EndsLine (e ++ a)
 ending-first e a (by c h) = h
-ending-first e a (at_end h) = subst (First EndsLine) (sym h) tt
+ending-first e a (at_end h) = rw h tt
 
 same-ending : (e a e' a' : List ℕ) → Ending a e → Ending a' e' → e ++ a ≡ e' ++ a' → (e ≡ e') × (a ≡ a')
 same-ending e a e' a' (by c h) (by d k) p = (cc, cc)
@@ -107,10 +107,10 @@ one-cut text b e a b' e' a' h k =
 pub one_line : (text : List ℕ) (from : ℕ) (r t : Reading) (n m : ℕ) → LineAt text from r n → LineAt text from t m → (r ≡ t) × (n ≡ m)
 one_line text from r t n m h k =
     let c = one-cut (drop from text) h.bs h.ending (drop n text) k.bs k.ending (drop m text) h.cut k.cut in
-    (one-reading from k.bs r t (subst (λ u. Reads from u r) c.0 h.reads) k.reads, cc (c.0, c.1))
+    (one-reading from k.bs r t (rw c.0 at h.reads) k.reads, cc (c.0, c.1))
 
 lines_moved : {i j : ℕ} {u v : List ℕ} {rows : List Row} → i ≡ j → u ≡ v → Lines i u rows → Lines j v rows
-lines_moved {i} {v = v} {rows = rows} p q l = subst (λ n. Lines n v rows) p (subst (λ t. Lines i t rows) q l)
+lines_moved {i} {v = v} {rows = rows} p q l = rw (p, q) at l
 
 pub one_lines : (at : ℕ) (text : List ℕ) (rows rows' : List Row) → Lines at text rows → Lines at text rows' → rows ≡ rows'
 one_lines at text rows rows' none none = refl
@@ -118,7 +118,7 @@ one_lines at text rows rows' none (more after c o r l) = absurd (c.some refl)
 one_lines at text rows rows' (more after c o r l) none = absurd (c.some refl)
 one_lines at text (row ∷ rows) (row' ∷ rows') (more after c o r l) (more after' c' o' r' l') =
     let e = one-cut text row.text row.ending after row'.text row'.ending after' c c' in
-    let s = one-reading at row'.text row.reading row'.reading (subst (λ u. Reads at u row.reading) e.0 r) r' in
+    let s = one-reading at row'.text row.reading row'.reading (rw e.0 at r) r' in
     let i : row ≡ row' = search (rules, o ∙ sym o', e, s) in
     let j = one_lines (at + length row'.text + length row'.ending) after' rows rows' (lines_moved (cc) e.2 l) l' in
     cc
