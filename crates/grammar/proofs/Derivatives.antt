@@ -1,7 +1,8 @@
 -- Derivatives of regular expressions: what may follow a byte. Assumes nothing.
-use Rattle.std.proofs.Common.{◌≡◌, ℕ, Bool, true, false, cond, ◌&&◌, ◌||◌, List, [], ◌∷◌, ◌++◌, sym, refl, ap, ◌∙◌, subst, inl, inr, ⊎_elim}
-use Rattle.std.proofs.lemmas.Bool.{and_from, and_parts, or_cases, or_left, or_right, both_ways, cond_both}
+use Rattle.std.proofs.Common.{◌≡◌, ℕ, Bool, true, false, cond, ◌&&◌, ◌||◌, List, [], ◌∷◌, ◌++◌, refl, ap, ◌∙◌, inl, inr, ⊎_elim}
+use Rattle.std.proofs.lemmas.Bool.{and_from, and_parts, or_cases, or_left, or_right, cond_both}
 use Rattle.grammar.specs.Regular.{Range, inside, Expr, never, empty, one, ◌then◌, ◌or◌, many, Star, stop, more, Spells}
+use Rattle.grammar.proofs.Joins.{seq, seq_is, alt, alt_is}
 
 -- the empty string is spelled
 abbrev pub nullable : Expr → Bool
@@ -11,31 +12,6 @@ nullable (one rs) = false
 nullable (a then b) = nullable a && nullable b
 nullable (a or b) = nullable a || nullable b
 nullable (many a) = true
-
--- `a then b` and `a or b`, where the plain cases are put together
-abbrev pub seq : Expr → Expr → Expr
-seq never b = never
-seq empty b = b
-seq (one rs) b = one rs then b
-seq (a then a') b = (a then a') then b
-seq (a or a') b = (a or a') then b
-seq (many a) b = many a then b
-
-abbrev alt' : Expr → Expr → Expr
-alt' a never = a
-alt' a empty = a or empty
-alt' a (one rs) = a or one rs
-alt' a (b then b') = a or (b then b')
-alt' a (b or b') = a or (b or b')
-alt' a (many b) = a or many b
-
-abbrev pub alt : Expr → Expr → Expr
-alt never b = b
-alt empty b = alt' empty b
-alt (one rs) b = alt' (one rs) b
-alt (a then a') b = alt' (a then a') b
-alt (a or a') b = alt' (a or a') b
-alt (many a) b = alt' (many a) b
 
 -- what may follow the byte c
 abbrev pub der : ℕ → Expr → Expr
@@ -49,34 +25,6 @@ der c (many a) = seq (der c a) (many a)
 abbrev pub ders : List ℕ → Expr → Expr
 ders [] e = e
 ders (c ∷ p) e = ders p (der c e)
-
--- two expressions spell the same
-abbrev Same : Expr → Expr → Type 0
-Same a b = (u : List ℕ) → (Spells a u → Spells b u) × (Spells b u → Spells a u)
-
-seq_is : (a b : Expr) → Same (a then b) (seq a b)
-seq_is never b u = (λ h. h.3, λ h. absurd h)
-seq_is empty b u = (λ h. subst (Spells b) (sym (h.2 ∙ ap (λ l. l ++ h.1) h.3)) h.4, λ h. ([], u, refl, refl, h))
-seq_is (one rs) b u = (λ h. h, λ h. h)
-seq_is (a then a') b u = (λ h. h, λ h. h)
-seq_is (a or a') b u = (λ h. h, λ h. h)
-seq_is (many a) b u = (λ h. h, λ h. h)
-
-alt'_is : (a b : Expr) → Same (a or b) (alt' a b)
-alt'_is a never u = (λ h. ⊎_elim (λ x. x) (λ x. absurd x) h, λ h. inl h)
-alt'_is a empty u = (λ h. h, λ h. h)
-alt'_is a (one rs) u = (λ h. h, λ h. h)
-alt'_is a (b then b') u = (λ h. h, λ h. h)
-alt'_is a (b or b') u = (λ h. h, λ h. h)
-alt'_is a (many b) u = (λ h. h, λ h. h)
-
-alt_is : (a b : Expr) → Same (a or b) (alt a b)
-alt_is never b u = (λ h. ⊎_elim (λ x. absurd x) (λ x. x) h, λ h. inr h)
-alt_is empty b u = alt'_is empty b u
-alt_is (one rs) b u = alt'_is (one rs) b u
-alt_is (a then a') b u = alt'_is (a then a') b u
-alt_is (a or a') b u = alt'_is (a or a') b u
-alt_is (many a) b u = alt'_is (many a) b u
 
 pub nullable_out : (e : Expr) → nullable e ≡ true → Spells e []
 nullable_out never h = cc
@@ -115,7 +63,7 @@ then_front a b d c u f h =
 then_back : (a b d : Expr) (c x : ℕ) (u s t : List ℕ) → Follows c a d → c ∷ u ≡ x ∷ (s ++ t) → Spells a (x ∷ s) → Spells b t → Spells (seq d b) u
 then_back a b d c x u s t f q h k =
     let e : x ≡ c = cc in
-    (seq_is d b u).0 (s, t, cc, (f s).1 (subst (λ y. Spells a (y ∷ s)) e h), k)
+    (seq_is d b u).0 (s, t, cc, (f s).1 (rw e at h), k)
 
 then_is : (a b : Expr) (c : ℕ) (n : Bool) → nullable a ≡ n → Follows c a (der c a) → Follows c b (der c b) → Follows c (a then b) (cond n (alt (seq (der c a) b) (der c b)) (seq (der c a) b))
 then_is a b c true e f g u = (out, in')
@@ -133,7 +81,7 @@ then_is a b c true e f g u = (out, in')
 then_is a b c false e f g u = (λ h. then_front a b (der c a) c u f h, in')
   where
     in' : Spells (a then b) (c ∷ u) → Spells (seq (der c a) b) u
-    in' ([], t, q, x, y) = absurd (both_ways (nullable a) e (nullable_in a x))
+    in' ([], t, q, x, y) = absurd (cc (nullable_in a x))
     in' (d ∷ s, t, q, x, y) = then_back a b (der c a) c d u s t f q x y
 
 many_back : (a d : Expr) (c : ℕ) (u v : List ℕ) → Follows c a d → Star (Spells a) v → c ∷ u ≡ v → Spells (seq d (many a)) u

@@ -1,3 +1,4 @@
+pub mod Joins
 pub mod Derivatives
 pub mod Once
 pub mod Spans

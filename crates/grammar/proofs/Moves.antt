@@ -3,7 +3,7 @@ use Rattle.std.proofs.Common.{◌≡◌, ℕ, ◌+◌, ◌<◌, true, false, Lis
 use Rattle.std.proofs.lemmas.Bool.Decides.{nat_tests}
 use Rattle.grammar.specs.Regular.{inside}
 use Rattle.grammar.specs.Productions.{blank, letter, alnum, label_char, iri_char, string_char, escape_letter, comment_char}
-use Rattle.grammar.specs.Scanner.{Next, verb, thing, dot, Role, follows, State, start, iri, slash, colon, label, before, string, escape, quoted, at, tag, hyphen, sub, carets, ended, remark, dead, move, step, plain, in_line, Stands, in_iri, in_string, Stuck, StuckEscape, Ended, Tagged, RunTo}
+use Rattle.grammar.specs.Scanner.{Next, verb, thing, dot, Role, follows, State, start, iri, slash, colon, label, before, string, escape, quoted, at, tag, hyphen, sub, carets, ended, remark, dead, move, step, between, sort, plain, in_line, Stands, in_iri, in_string, Stuck, StuckEscape, Ended, Tagged, RunTo}
 use Rattle.grammar.proofs.Steps.{class_step, onward, by_byte, no_step, same_step, run_enters, loops_label, loops_tag, loops_sub}
 
 -- a test that fails
@@ -67,15 +67,18 @@ module _ (s : State) (bs : List ℕ) (k : ℕ) where
 
 -- the ends of terms
 module _ (s : State) (bs : List ℕ) (k : ℕ) where
-  pub label-ended : (r : Role) → Stands s bs k (label r) → (k < length bs → inside label_char (get_or bs k 0) ≡ false) → Ended s bs k (follows r)
-  label-ended r h e = record { state = label r; stands = h; over = refl; next = λ l. same_step (label r) (before (follows r)) (get_or bs k 0) (grind (arith, nat_tests, e l)) }
+  ends_term : (t : State) (n : Next) → Stands s bs k t → sort t ≡ between → (k < length bs → move t (get_or bs k 0) ≡ move (before n) (get_or bs k 0)) → Ended s bs k n
+  ends_term t n h b m = record { state = t; stands = h; over = b; next = λ l. same_step t (before n) (get_or bs k 0) (m l) }
+
+  label-ended : (r : Role) → Stands s bs k (label r) → (k < length bs → inside label_char (get_or bs k 0) ≡ false) → Ended s bs k (follows r)
+  label-ended r h e = ends_term (label r) (follows r) h refl (λ l. grind (arith, nat_tests, e l))
 
   pub quoted-ended : Stands s bs k quoted → (k < length bs → Not (get_or bs k 0) 64) → (k < length bs → Not (get_or bs k 0) 94) → Ended s bs k dot
-  quoted-ended h u v = record { state = quoted; stands = h; over = refl; next = λ l. same_step quoted (before dot) (get_or bs k 0) (grind (arith, nat_tests, u l, v l)) }
+  quoted-ended h u v = ends_term quoted dot h refl (λ l. grind (arith, nat_tests, u l, v l))
 
   pub tag-ended : Tagged s bs k → (k < length bs → Not (get_or bs k 0) 45) → Ended s bs k dot
-  tag-ended (inl (h, e)) u = record { state = tag; stands = h; over = refl; next = λ l. same_step tag (before dot) (get_or bs k 0) (grind (arith, nat_tests, e l, u l)) }
-  tag-ended (inr (h, e)) u = record { state = sub; stands = h; over = refl; next = λ l. same_step sub (before dot) (get_or bs k 0) (grind (arith, nat_tests, e l, u l)) }
+  tag-ended (inl (h, e)) u = ends_term tag dot h refl (λ l. grind (arith, nat_tests, e l, u l))
+  tag-ended (inr (h, e)) u = ends_term sub dot h refl (λ l. grind (arith, nat_tests, e l, u l))
 
   pub tag-hyphen : Tagged s bs k → k < length bs → get_or bs k 0 ≡ 45 → Stands s bs (k + 1) hyphen
   tag-hyphen (inl (h, e)) l q = by_byte s bs k 45 tag hyphen h l q refl

@@ -1,6 +1,6 @@
 -- One step of the scanner, or a run of bytes of a class, at an offset of its line. Assumes nothing.
 use Rattle.std.proofs.Common.{◌≡◌, ℕ, zero, suc, ◌+◌, ◌-◌, ◌<◌, ◌≤◌, Bool, true, false, cond, leb, ◌⊎◌, List, [], ◌∷◌, length, get_or, take, refl, ap, ◌∙◌, subst, inl, inr, ⊎_elim, arith}
-use Rattle.std.proofs.lemmas.Bool.{both_ways, cases_lt, cond-true, le-leb}
+use Rattle.std.proofs.lemmas.Bool.{cases_lt, cond-true, le-leb}
 use Rattle.std.proofs.lemmas.Bool.Decides.{nat_tests}
 use Rattle.std.proofs.lemmas.List.{take_more}
 use Rattle.grammar.specs.Regular.{Range, inside}
@@ -97,14 +97,17 @@ module _ (f : Sort → Bool) (s : State) (bs : List ℕ) (k : ℕ) where
   pub stuck_at : (t : State) → Stands s bs k t → plain (sort t) ≡ true → (k < length bs → move t (get_or bs k 0) ≡ dead) → (k ≡ length bs → f (sort t) ≡ true) → Stuck f s bs k
   stuck_at t h p d e = record { state = t; stands = h; live = inl p; next = λ l. no_step t (get_or bs k 0) (d l); end = e }
 
+  halts_by : (n : ℕ) (h : Stuck f s bs k) → Halted f s bs k h.state n → Halts f s bs k n
+  halts_by n h w = record { state = h.state; stands = h.stands; live = h.live; why = w }
+
   pub halt_short : Stuck f s bs k → k ≡ length bs → Halts f s bs k 3
-  halt_short h e = record { state = h.state; stands = h.stands; live = h.live; why = scan.short e (h.end e) }
+  halt_short h e = halts_by 3 h (scan.short e (h.end e))
 
   pub halt_high : Stuck f s bs k → k < length bs → 128 ≤ get_or bs k 0 → Halts f s bs k 1
-  halt_high h l c = record { state = h.state; stands = h.stands; live = h.live; why = scan.high l c }
+  halt_high h l c = halts_by 1 h (scan.high l c)
 
   pub halt_other : Stuck f s bs k → k < length bs → get_or bs k 0 < 128 → Halts f s bs k 3
-  halt_other h l c = record { state = h.state; stands = h.stands; live = h.live; why = scan.other l c (h.next l) }
+  halt_other h l c = halts_by 3 h (scan.other l c (h.next l))
 
 is_letter : (c : ℕ) → inside uchar_letter c ≡ true → (c ≡ 117) ⊎ (c ≡ 85)
 is_letter c i = grind (arith, nat_tests)
@@ -118,7 +121,7 @@ module _ (s : State) (bs : List ℕ) (k : ℕ) (h : StuckEscape s bs k) where
     state = h.state;
     stands = h.stands;
     live = inr h.slashed;
-    next = λ l. h.next l (λ e. both_ways _ (n l) (ap (inside uchar_letter) e)) (λ e. both_ways _ (n l) (ap (inside uchar_letter) e));
+    next = λ l. h.next l (λ e. grind (arith, nat_tests, n l)) (λ e. grind (arith, nat_tests, n l));
     end = λ _. deep h.state h.slashed;
   }
     where
