@@ -9,7 +9,7 @@ use Rattle.grammar.specs.Scanner.{Next, verb, thing, dot, first, last, State, st
 use Rattle.grammar.proofs.Derivatives.{nullable, nullable_in}
 use Rattle.grammar.proofs.Residue.{left, lettered}
 use Rattle.grammar.proofs.States.{where_passed}
-use Rattle.grammar.proofs.Runs.{lives, step_in, left-low, left_out, left-part, left-full}
+use Rattle.grammar.proofs.Runs.{lives, step_in, no-part, left-low, left_out, left-part, left-full}
 use Rattle.grammar.proofs.Once.{begins_shorter}
 use Rattle.grammar.proofs.Finishes.{plain_goes, letter_goes, letter-stops}
 
@@ -58,7 +58,7 @@ module _ (bs : List ℕ) (k : ℕ) (t : State) (st : Stands start bs k t) where
     next-full v h = let n = next_byte bs k (line full) l h in (n.0, left-full start bs k t st (get_or bs k 0 ∷ n.0) (lives_at v) n.1)
 
     no_part : left part (step t (get_or bs k 0)) ≡ never → Begins (line part) (take (k + 1) bs) → ⊥
-    no_part d h = let n = next-part h in rw d at (step_in part t (get_or bs k 0) n.0 (λ e. cc) n.1)
+    no_part d h = let n = next-part h in no-part t (get_or bs k 0) n.0 d n.1
 
     no_full : (plain (sort t) ≡ true) ⊎ Slashed start bs k t → step t (get_or bs k 0) ≡ dead → Begins (line full) (take (k + 1) bs) → ⊥
     no_full v d h = let n = next-full v h in rw d at (step_in full t (get_or bs k 0) n.0 (λ _. ap (λ s. lettered (sort s)) d) n.1)

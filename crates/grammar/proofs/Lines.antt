@@ -1,5 +1,5 @@
 -- The line of a document at an offset, from where it ends. Assumes nothing.
-use Rattle.std.proofs.Common.{◌≡◌, ℕ, zero, suc, ◌+◌, ◌-◌, ◌<◌, ◌≤◌, Bool, true, false, leb, List, [], ◌∷◌, ◌++◌, length, get_or, take, drop, MatchBool, refl, sym, ap, ◌∙◌, subst, arith, take-append-drop}
+use Rattle.std.proofs.Common.{◌≡◌, ℕ, zero, suc, ◌+◌, ◌-◌, ◌<◌, ◌≤◌, Bool, true, false, leb, List, [], ◌∷◌, ◌++◌, length, get_or, take, drop, MatchBool, refl, ap, ◌∙◌, arith, take-append-drop}
 use Rattle.std.proofs.lemmas.List.Edits.{length-between, split_between}
 use Rattle.std.proofs.lemmas.Bool.{leb-true, leb-false}
 use Rattle.std.proofs.lemmas.List.{drop_more, drop_all, append_cancel_left}
@@ -10,7 +10,7 @@ use Rattle.grammar.proofs.Slices.{piece-none, piece-one, piece_join}
 
 module _ (text : List ℕ) where
   unbroken_from : (n a e : ℕ) → e ≡ a + n → e ≤ length text → ((k : ℕ) → a ≤ k → k < e → EndsLine (get_or text k 0) → ⊥) → Unbroken (piece text a e)
-  unbroken_from zero a e q l h = subst Unbroken (sym (piece-none text a) ∙ ap (piece text a) (let z : a ≡ e = omega arith in z)) tt
+  unbroken_from zero a e q l h = let z : a ≡ e = omega arith in rw (z, piece-none text e) tt
   unbroken_from (suc n) a e q l h =
       let p : piece text a e ≡ get_or text a 0 ∷ piece text (a + 1) e = cc (piece_join text a (a + 1) e (omega arith) (omega arith), piece-one text a (omega arith)) in
       rw p (h a (omega arith) (omega arith), unbroken_from n (a + 1) e (omega arith) l (λ k i j. h k (omega arith) j))

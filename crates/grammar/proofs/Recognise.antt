@@ -11,7 +11,7 @@ use Rattle.grammar.specs.Scanner.{thing, dot, State, before, step, run, sort, in
 use Rattle.grammar.proofs.Derivatives.{nullable, der, der_is, nullable_in}
 use Rattle.grammar.proofs.Residue.{left}
 use Rattle.grammar.proofs.States.{where_passed}
-use Rattle.grammar.proofs.Runs.{step_in, left-low, left-part}
+use Rattle.grammar.proofs.Runs.{no-part, left-low, left-part}
 use Rattle.grammar.proofs.Finishes.{letter-stops}
 use Rattle.grammar.proofs.LL1.{firsts}
 use Rattle.grammar.proofs.Pieces.{begins_in}
@@ -39,8 +39,7 @@ module _ (bs : List ℕ) (h : Spells (object part) bs) where
 
   goes-dead : (k : ℕ) (t : State) → Stands (before thing) bs k t → k < length bs → left part (step t (get_or bs k 0)) ≡ never → ⊥
   goes-dead k t st l d =
-      let r = rest_at k t st l in
-      rw d at (step_in part t (get_or bs k 0) r.0 (λ e. cc) r.1)
+      let r = rest_at k t st l in no-part t (get_or bs k 0) r.0 d r.1
 
   halted : (k n : ℕ) (t : State) → Stands (before thing) bs k t → Halted in_term (before thing) bs k t n → ⊥
   halted k n t st (scan.high l c) = let r = rest_at k t st l in omega (arith, left-low part t (get_or bs k 0) r.0 r.1)

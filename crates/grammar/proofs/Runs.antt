@@ -25,7 +25,7 @@ lives none = false
 not_lettered : (s : State) → lives (sort s) ≡ true → lettered (sort s) ≡ false
 not_lettered s h = not-true _ (where_passed (λ t. lives (sort t)) (λ t. not (lettered (sort t))) refl s h)
 
-pub step-high : (s : State) (c : ℕ) → 128 ≤ c → step s c ≡ dead
+step-high : (s : State) (c : ℕ) → 128 ≤ c → step s c ≡ dead
 step-high s c h = grind (arith, nat_tests)
 
 skip_out : (x : Extent) (s : State) (e : Expr) (u : List ℕ) → Spells (skipped x s e) u → Spells e u
@@ -53,6 +53,10 @@ step_out x s c u h =
 
 pub step_in : (x : Extent) (s : State) (c : ℕ) (u : List ℕ) → (x ≡ full → lettered (sort (step s c)) ≡ false) → Spells (left x s) (c ∷ u) → Spells (left x (step s c)) u
 step_in x s c u o h = rw (row_at x s c (left-low x s c u h)) at (skip_in x (step s c) _ u o ((der_is c (left x s) u).1 h))
+
+-- where nothing is left after a byte, no string has it
+pub no-part : (s : State) (c : ℕ) (u : List ℕ) → left part (step s c) ≡ never → Spells (left part s) (c ∷ u) → ⊥
+no-part s c u d h = rw d at (step_in part s c u (λ e. cc) h)
 
 run_out : (x : Extent) (s : State) (p u : List ℕ) → Spells (left x (run s p)) u → Spells (left x s) (p ++ u)
 run_out x s [] u h = h

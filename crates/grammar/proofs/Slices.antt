@@ -1,5 +1,5 @@
 -- Pieces of a line, and what they spell. Assumes nothing.
-use Rattle.std.proofs.Common.{◌≡◌, ℕ, zero, suc, ◌+◌, ◌-◌, ◌<◌, ◌≤◌, true, List, [], ◌∷◌, ◌++◌, length, get_or, drop, sym, ap, ◌∙◌, subst, inl, append_assoc, append-nil, arith, take-add}
+use Rattle.std.proofs.Common.{◌≡◌, ℕ, zero, suc, ◌+◌, ◌-◌, ◌<◌, ◌≤◌, true, List, [], ◌∷◌, ◌++◌, length, get_or, drop, sym, ap, ◌∙◌, inl, append_assoc, append-nil, arith, take-add}
 use Rattle.std.proofs.lemmas.Bool.Decides.{nat_tests}
 use Rattle.std.proofs.lemmas.List.{drop-drop}
 use Rattle.std.proofs.lemmas.List.Edits.{between_none, between_more}
@@ -59,7 +59,7 @@ module _ (bs : List ℕ) where
   none_yet A a = rw (piece-none bs a) stop
 
   run_from : (rs : List Range) (n k e : ℕ) → e ≡ k + n → e ≤ length bs → ((j : ℕ) → k ≤ j → j < e → inside rs (get_or bs j 0) ≡ true) → Spells (many (one rs)) (piece bs k e)
-  run_from rs zero k e q l i = subst (λ x. Spells (many (one rs)) (piece bs k x)) (let z : k ≡ e = omega arith in z) (none_yet (one rs) k)
+  run_from rs zero k e q l i = let z : k ≡ e = omega arith in rw z (none_yet (one rs) e)
   run_from rs (suc n) k e q l i =
       more (piece bs k (k + 1)) (piece bs (k + 1) e) (piece_join bs k (k + 1) e (omega arith) (omega arith))
       (class_at rs k (omega arith) (i k (omega arith) (omega arith))) (run_from rs n (k + 1) e (omega arith) l (λ j a b. i j (omega arith) b))

@@ -1,5 +1,5 @@
 -- One step of the scanner, or a run of bytes of a class, at an offset of its line. Assumes nothing.
-use Rattle.std.proofs.Common.{◌≡◌, ℕ, zero, suc, ◌+◌, ◌-◌, ◌<◌, ◌≤◌, Bool, true, false, cond, leb, ◌⊎◌, List, [], ◌∷◌, length, get_or, take, refl, ap, ◌∙◌, subst, inl, inr, ⊎_elim, arith}
+use Rattle.std.proofs.Common.{◌≡◌, ℕ, zero, suc, ◌+◌, ◌-◌, ◌<◌, ◌≤◌, Bool, true, false, cond, leb, ◌⊎◌, List, [], ◌∷◌, length, get_or, take, refl, ap, ◌∙◌, inl, inr, ⊎_elim, arith}
 use Rattle.std.proofs.lemmas.Bool.{cases_lt, cond-true, le-leb}
 use Rattle.std.proofs.lemmas.Bool.Decides.{nat_tests}
 use Rattle.std.proofs.lemmas.List.{take_more}
@@ -27,8 +27,7 @@ class_step rs t u v c l m i =
 
 -- one byte further
 pub onward : (s : State) (bs : List ℕ) (k : ℕ) (t u : State) → Stands s bs k t → k < length bs → step t (get_or bs k 0) ≡ u → Stands s bs (k + 1) u
-onward s bs k t u h l e =
-    ap (run s) (take_more bs k 0 l) ∙ run-append s (take k bs) (get_or bs k 0 ∷ []) ∙ ap (λ x. step x (get_or bs k 0)) h ∙ e
+onward s bs k t u h l e = rw (take_more bs k 0 l, run-append s (take k bs) (get_or bs k 0 ∷ []), h) e
 
 pub by_byte : (s : State) (bs : List ℕ) (k b : ℕ) (t u : State) → Stands s bs k t → k < length bs → get_or bs k 0 ≡ b → step t b ≡ u → Stands s bs (k + 1) u
 by_byte s bs k b t u h l e m = onward s bs k t u h l (ap (step t) e ∙ m)
@@ -67,8 +66,8 @@ loops_before thing c i = class_step blank (before thing) (before thing) _ c refl
 loops_before dot c i = class_step blank (before dot) (before dot) _ c refl refl i
 
 module _ (s : State) (bs : List ℕ) (rs : List Range) (t : State) (h : Loops rs t) where
-  pub stays : (n k e : ℕ) → e ≡ k + n → e ≤ length bs → ((j : ℕ) → k ≤ j → j < e → inside rs (get_or bs j 0) ≡ true) → Stands s bs k t → Stands s bs e t
-  stays zero k e q l i st = subst (λ x. Stands s bs x t) (let z : k ≡ e = omega arith in z) st
+  stays : (n k e : ℕ) → e ≡ k + n → e ≤ length bs → ((j : ℕ) → k ≤ j → j < e → inside rs (get_or bs j 0) ≡ true) → Stands s bs k t → Stands s bs e t
+  stays zero k e q l i st = let z : k ≡ e = omega arith in rw z at st
   stays (suc n) k e q l i st =
       stays n (k + 1) e (omega arith) l (λ j a b. i j (omega arith) b) (onward s bs k t t st (omega arith) (h (get_or bs k 0) (i k (omega arith) (omega arith))))
 
@@ -89,7 +88,7 @@ blanks-ended s bs k e n r h =
     ⊎_elim
     (λ l. before-ended s bs e n (run-stays s bs blank (before n) (loops_before n) (k + 1) e (run_rest blank bs k e r l)
     (onward s bs k h.state (before n) h.stands (omega (arith, r.within)) (h.next (omega (arith, r.within)) ∙ loops_before n (get_or bs k 0) (r.all k (omega arith) l)))))
-    (λ l. subst (λ x. Ended s bs x n) (let z : k ≡ e = omega (arith, r.forward) in z) h)
+    (λ l. let z : k ≡ e = omega (arith, r.forward) in rw z at h)
     (cases_lt k e)
 
 -- what is known where the code finds that a line cannot go on
