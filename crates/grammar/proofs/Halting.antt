@@ -1,5 +1,6 @@
 -- Where the states halt, a line of the grammar stops. Assumes nothing.
 use Rattle.std.proofs.Common.{◌≡◌, ℕ, ◌+◌, ◌<◌, true, not, ◌⊎◌, List, [], ◌∷◌, ◌++◌, length, get_or, take, sym, refl, ap, ◌∙◌, inl, inr, ⊎_elim, append_assoc, append-nil, arith}
+use Rattle.std.proofs.lemmas.Bool.{both_ways, not-true}
 use Rattle.std.proofs.lemmas.List.{take_all, take_more, same_from_push}
 use Rattle.grammar.specs.Regular.{Expr, never, Spells, Begins}
 use Rattle.grammar.specs.Productions.{full, part, line}
@@ -81,8 +82,7 @@ module _ (bs : List ℕ) (k : ℕ) (t : State) (st : Stands start bs k t) where
   ends_not n (scan.short q h) e x =
       let w : Spells (line part) (take k bs ++ []) = rw (append-nil, take_all k bs (omega arith)) x in
       let y = left-part start bs k t st [] w in
-      let z = where_passed (λ s. in_line (sort s)) (λ s. not (nullable (left part s))) refl t h in
-      cc (nullable_in (left part t) y)
+      both_ways _ (not-true _ (where_passed (λ s. in_line (sort s)) (λ s. not (nullable (left part s))) refl t h)) (nullable_in (left part t) y)
 
   reason : (n : ℕ) → (plain (sort t) ≡ true) ⊎ Slashed start bs k t → Halted in_line start bs k t n → Why (line full) bs k n
   reason n v (scan.high l h) = high l h

@@ -1,6 +1,6 @@
 -- A text on its own that is, or is not, a term. Assumes nothing.
 use Rattle.std.proofs.Common.{◌≡◌, ℕ, ◌+◌, ◌<◌, ◌≤◌, true, false, not, eqb, List, [], ◌∷◌, ◌++◌, length, get_or, take, drop, sym, refl, ap, ◌∙◌, subst, inl, ⊎_elim, append_assoc, append-nil, arith, take-append-drop}
-use Rattle.std.proofs.lemmas.Bool.{cases_Bool, eqb-true, eqb-false}
+use Rattle.std.proofs.lemmas.Bool.{both_ways, not-true, cases_Bool, eqb-true, eqb-false}
 use Rattle.std.proofs.lemmas.Bool.Decides.{nat_tests}
 use Rattle.std.proofs.lemmas.Slice.{between_from_start}
 use Rattle.std.proofs.lemmas.List.{take_all, drop_more}
@@ -48,8 +48,7 @@ module _ (bs : List ℕ) (h : Spells (object part) bs) where
   halted k n t st (scan.short e i) =
       let w : Spells (left part (before thing)) (take k bs ++ 46 ∷ []) = rw (take_all k bs (omega arith)) (with_dot bs h) in
       let x = left-part (before thing) bs k t st (46 ∷ []) w in
-      let z = where_passed (λ s. in_term (sort s)) (λ s. not (nullable (der 46 (left part s)))) refl t i in
-      cc (nullable_in (der 46 (left part t)) ((der_is 46 (left part t) []).1 x))
+      both_ways _ (not-true _ (where_passed (λ s. in_term (sort s)) (λ s. not (nullable (der 46 (left part s)))) refl t i)) (nullable_in (der 46 (left part t)) ((der_is 46 (left part t) []).1 x))
 
   -- a text that halts inside a term is no term
   not_halted : (k n : ℕ) → Halts in_term (before thing) bs k n → ⊥
