@@ -1,110 +1,37 @@
 -- Where the states halt, a line of the grammar stops. Assumes nothing.
-use Rattle.std.proofs.Common.{◌≡◌, ℕ, ◌+◌, ◌<◌, true, not, ◌⊎◌, List, [], ◌∷◌, ◌++◌, length, get_or, take, sym, refl, ap, ◌∙◌, subst, inl, inr, ⊎_elim, append_assoc, append-nil, arith}
-use Rattle.std.proofs.lemmas.Bool.{both_ways}
-use Rattle.std.proofs.lemmas.List.{take_all, take_more}
+use Rattle.std.proofs.Common.{◌≡◌, ℕ, ◌+◌, ◌<◌, true, not, ◌⊎◌, List, [], ◌∷◌, ◌++◌, length, get_or, take, sym, refl, ap, ◌∙◌, inl, inr, ⊎_elim, append_assoc, append-nil, arith}
+use Rattle.std.proofs.lemmas.Bool.{both_ways, not-true}
+use Rattle.std.proofs.lemmas.List.{take_all, take_more, same_from_push}
 use Rattle.grammar.specs.Regular.{Expr, never, Spells, Begins}
 use Rattle.grammar.specs.Productions.{full, part, line}
 use Rattle.grammar.specs.Places.{GoesOn, begins, slashed, Why, high, unicode, other, short, Stops}
 use Rattle.grammar.specs.Scanner as scan
 use Rattle.grammar.specs.Scanner.{Next, verb, thing, dot, first, last, State, start, iri, slash, under, colon, label, before, string, escape, quoted, at, tag, hyphen, sub, caret, carets, ended, remark, uchar, dead, step, run, Sort, inner, between, done, slashes, escapes, letters, none, sort, plain, in_line, Stands, Slashed, in_iri, in_string, Halted, Halts}
-use Rattle.grammar.proofs.Derivatives.{nullable, ders, ders_out, nullable_out, nullable_in}
-use Rattle.grammar.proofs.Residue.{left, lettered, every, if, if_so}
-use Rattle.grammar.proofs.Runs.{lives, step_in, run_out, run-part, run-full, left-low, not_full}
-
--- a string that ends a line from a state where the part that is read can go on
-abbrev finish : State → List ℕ
-finish start = []
-finish (iri verb) = 62 ∷ 60 ∷ 62 ∷ 60 ∷ 62 ∷ 46 ∷ []
-finish (iri thing) = 62 ∷ 60 ∷ 62 ∷ 46 ∷ []
-finish (iri dot) = 62 ∷ 46 ∷ []
-finish (slash n) = []
-finish (under first) = 58 ∷ 97 ∷ 60 ∷ 62 ∷ 60 ∷ 62 ∷ 46 ∷ []
-finish (under last) = 58 ∷ 97 ∷ 46 ∷ []
-finish (colon first) = 97 ∷ 60 ∷ 62 ∷ 60 ∷ 62 ∷ 46 ∷ []
-finish (colon last) = 97 ∷ 46 ∷ []
-finish (label first) = 60 ∷ 62 ∷ 60 ∷ 62 ∷ 46 ∷ []
-finish (label last) = 46 ∷ []
-finish (before verb) = 60 ∷ 62 ∷ 60 ∷ 62 ∷ 46 ∷ []
-finish (before thing) = 60 ∷ 62 ∷ 46 ∷ []
-finish (before dot) = 46 ∷ []
-finish string = 34 ∷ 46 ∷ []
-finish escape = 116 ∷ 34 ∷ 46 ∷ []
-finish quoted = 46 ∷ []
-finish at = 97 ∷ 46 ∷ []
-finish tag = 46 ∷ []
-finish hyphen = 97 ∷ 46 ∷ []
-finish sub = 46 ∷ []
-finish caret = 94 ∷ 60 ∷ 62 ∷ 46 ∷ []
-finish carets = 60 ∷ 62 ∷ 46 ∷ []
-finish ended = []
-finish remark = []
-finish uchar = []
-finish dead = []
-
-computed : (u : List ℕ) (e : Expr) → nullable (ders u e) ≡ true → Spells e u
-computed u e h = subst (Spells e) (append-nil u) (ders_out u [] e (nullable_out (ders u e) h))
-
-plain_goes : (s : State) → plain (sort s) ≡ true → (u : List ℕ) × Spells (left part s) u
-plain_goes s h =
-    let t = if_so _ _ (every (λ s. if (plain (sort s)) (nullable (ders (finish s) (left part s)))) refl refl s) h in
-    (finish s, computed (finish s) (left part s) t)
-
--- after a backslash the whole grammar goes on with u and four digits, and with U and eight
-abbrev four : List ℕ → List ℕ
-four u = 48 ∷ 48 ∷ 48 ∷ 48 ∷ u
-
-slash_goes : (n : Next) → Spells (left full (slash n)) (117 ∷ four (finish (iri n))) × Spells (left full (slash n)) (85 ∷ four (four (finish (iri n))))
-slash_goes verb = (computed _ (left full (slash verb)) refl, computed _ (left full (slash verb)) refl)
-slash_goes thing = (computed _ (left full (slash thing)) refl, computed _ (left full (slash thing)) refl)
-slash_goes dot = (computed _ (left full (slash dot)) refl, computed _ (left full (slash dot)) refl)
-
-letter_goes : (s : State) (bs : List ℕ) (k : ℕ) (t : State) (c : ℕ) → Slashed s bs k t → (c ≡ 117) ⊎ (c ≡ 85) → (u : List ℕ) × Spells (left full t) (c ∷ u)
-letter_goes s bs k t c (in_iri n j a b x y) (inl e) = (four (finish (iri n)), subst (λ d. Spells (left full (slash n)) (d ∷ four (finish (iri n)))) (sym e) (slash_goes n).0)
-letter_goes s bs k t c (in_iri n j a b x y) (inr e) = (four (four (finish (iri n))), subst (λ d. Spells (left full (slash n)) (d ∷ four (four (finish (iri n))))) (sym e) (slash_goes n).1)
-letter_goes s bs k t c in_string (inl e) = (four (finish string), subst (λ d. Spells (left full escape) (d ∷ four (finish string))) (sym e) (computed (117 ∷ four (finish string)) (left full escape) refl))
-letter_goes s bs k t c in_string (inr e) = (four (four (finish string)), subst (λ d. Spells (left full escape) (d ∷ four (four (finish string)))) (sym e) (computed (85 ∷ four (four (finish string))) (left full escape) refl))
-
--- and the part that is read does not
-pub letter-stops : (s : State) (bs : List ℕ) (k : ℕ) (t : State) (c : ℕ) → Slashed s bs k t → (c ≡ 117) ⊎ (c ≡ 85) → left part (step t c) ≡ never
-letter-stops s bs k t c (in_iri n j a b x y) (inl e) = ap (λ d. left part (step (slash n) d)) e
-letter-stops s bs k t c (in_iri n j a b x y) (inr e) = ap (λ d. left part (step (slash n) d)) e
-letter-stops s bs k t c in_string (inl e) = ap (λ d. left part (step escape d)) e
-letter-stops s bs k t c in_string (inr e) = ap (λ d. left part (step escape d)) e
+use Rattle.grammar.proofs.Derivatives.{nullable, nullable_in}
+use Rattle.grammar.proofs.Residue.{left, lettered}
+use Rattle.grammar.proofs.States.{where_passed}
+use Rattle.grammar.proofs.Runs.{lives, step_in, no-part, left-low, left_out, left-part, left-full}
+use Rattle.grammar.proofs.Once.{begins_shorter}
+use Rattle.grammar.proofs.Finishes.{plain_goes, letter_goes, letter-stops}
 
 slashed-lives : (s : State) (bs : List ℕ) (k : ℕ) (t : State) → Slashed s bs k t → lives (sort t) ≡ true
 slashed-lives s bs k t (in_iri n j a b x y) = refl
 slashed-lives s bs k t in_string = refl
 
-plain-lives : (s : Sort) → plain s ≡ true → lives s ≡ true
-plain-lives inner h = refl
-plain-lives between h = refl
-plain-lives done h = refl
-plain-lives slashes h = refl
-plain-lives escapes h = refl
-plain-lives letters h = h
-plain-lives none h = h
-
-snoc_last : (p q : List ℕ) (c d : ℕ) → p ++ c ∷ [] ≡ q ++ d ∷ [] → c ≡ d
-snoc_last [] [] c d e = cc
-snoc_last [] (x ∷ []) c d e = absurd (let z : ◌≡◌ {A = ℕ} 0 1 = cc in omega arith)
-snoc_last [] (x ∷ (y ∷ q)) c d e = absurd (let z : ◌≡◌ {A = ℕ} 0 1 = cc in omega arith)
-snoc_last (x ∷ []) [] c d e = absurd (let z : ◌≡◌ {A = ℕ} 0 1 = cc in omega arith)
-snoc_last (x ∷ (y ∷ p)) [] c d e = absurd (let z : ◌≡◌ {A = ℕ} 0 1 = cc in omega arith)
-snoc_last (x ∷ p) (y ∷ q) c d e = snoc_last p q c d (let z : p ++ c ∷ [] ≡ q ++ d ∷ [] = cc in z)
+next_byte : (bs : List ℕ) (k : ℕ) (e : Expr) → k < length bs → Begins e (take (k + 1) bs) → (q : List ℕ) × Spells e (take k bs ++ get_or bs k 0 ∷ q)
+next_byte bs k e l (q, x) = (q, rw (take_more bs k 0 l, append_assoc) at x)
 
 module _ (bs : List ℕ) (k : ℕ) (t : State) (st : Stands start bs k t) where
   begins-part : plain (sort t) ≡ true → Begins (line part) (take k bs)
-  begins-part h =
-      let g = plain_goes t h in
-      (g.0, run_out part start (take k bs) g.0 (subst (λ s. Spells (left part s) g.0) (sym st) g.1))
+  begins-part h = let g = plain_goes t h in (g.0, left_out start bs k t st g.0 part g.1)
 
   begins-full : (c : ℕ) → Slashed start bs k t → (c ≡ 117) ⊎ (c ≡ 85) → Begins (line full) (take k bs ++ c ∷ [])
   begins-full c h e =
       let g = letter_goes start bs k t c h e in
-      (g.0, subst (Spells (line full)) (sym (append_assoc (take k bs) (c ∷ []) g.0)) (run_out full start (take k bs) (c ∷ g.0) (subst (λ s. Spells (left full s) (c ∷ g.0)) (sym st) g.1)))
+      (g.0, rw append_assoc (left_out start bs k t st (c ∷ g.0) full g.1))
 
   before-letter : Slashed start bs k t → Begins (line full) (take k bs)
-  before-letter h = let b = begins-full 117 h (inl refl) in (117 ∷ b.0, subst (Spells (line full)) (append_assoc (take k bs) (117 ∷ []) b.0) b.1)
+  before-letter h = begins_shorter (line full) (take k bs) (117 ∷ []) (begins-full 117 h (inl refl))
 
   goes : (plain (sort t) ≡ true) ⊎ Slashed start bs k t → GoesOn (line full) (line part) (take k bs)
   goes (inl h) = begins (begins-part h)
@@ -113,40 +40,37 @@ module _ (bs : List ℕ) (k : ℕ) (t : State) (st : Stands start bs k t) where
       after : (t : State) → Stands start bs k t → Slashed start bs k t → GoesOn (line full) (line part) (take k bs)
       after t st (in_iri n j e l x y) =
           let q : take k bs ≡ take j bs ++ 92 ∷ [] = ap (λ i. take i bs) e ∙ take_more bs j 0 l ∙ ap (λ c. take j bs ++ c ∷ []) y in
-          slashed (take j bs) q (g.0, run_out part start (take j bs) g.0 (subst (λ s. Spells (left part s) g.0) (sym x) g.1)) (before-letter h)
+          slashed (take j bs) q (g.0, left_out start bs j (iri n) x g.0 part g.1) (before-letter h)
         where
           g : (u : List ℕ) × Spells (left part (iri n)) u
           g = plain_goes (iri n) refl
-      after t st in_string = begins (let g = plain_goes escape refl in (g.0, run_out part start (take k bs) g.0 (subst (λ s. Spells (left part s) g.0) (sym st) g.1)))
+      after t st in_string = begins (let g = plain_goes escape refl in (g.0, left_out start bs k escape st g.0 part g.1))
 
-  lives_at : (plain (sort t) ≡ true) ⊎ Slashed start bs k t → lives (sort (run start (take k bs))) ≡ true
-  lives_at h = ap (λ s. lives (sort s)) st ∙ ⊎_elim (λ x. plain-lives (sort t) x) (λ x. slashed-lives start bs k t x) h
+  lives_at : (plain (sort t) ≡ true) ⊎ Slashed start bs k t → lives (sort t) ≡ true
+  lives_at (inl h) = where_passed (λ s. plain (sort s)) (λ s. lives (sort s)) refl t h
+  lives_at (inr h) = slashed-lives start bs k t h
 
   -- the byte at k, by what is left before it
   module _ (l : k < length bs) where
     next-part : Begins (line part) (take (k + 1) bs) → (u : List ℕ) × Spells (left part t) (get_or bs k 0 ∷ u)
-    next-part (q, x) =
-        let y : Spells (line part) (take k bs ++ get_or bs k 0 ∷ q) = subst (Spells (line part)) (ap (λ z. z ++ q) (take_more bs k 0 l) ∙ append_assoc (take k bs) (get_or bs k 0 ∷ []) q) x in
-        (q, subst (λ s. Spells (left part s) (get_or bs k 0 ∷ q)) st (run-part start (take k bs) (get_or bs k 0 ∷ q) y))
+    next-part h = let n = next_byte bs k (line part) l h in (n.0, left-part start bs k t st (get_or bs k 0 ∷ n.0) n.1)
 
     next-full : (plain (sort t) ≡ true) ⊎ Slashed start bs k t → Begins (line full) (take (k + 1) bs) → (u : List ℕ) × Spells (left full t) (get_or bs k 0 ∷ u)
-    next-full v (q, x) =
-        let y : Spells (line full) (take k bs ++ get_or bs k 0 ∷ q) = subst (Spells (line full)) (ap (λ z. z ++ q) (take_more bs k 0 l) ∙ append_assoc (take k bs) (get_or bs k 0 ∷ []) q) x in
-        (q, subst (λ s. Spells (left full s) (get_or bs k 0 ∷ q)) st (run-full start (take k bs) (get_or bs k 0 ∷ q) (lives_at v) y))
+    next-full v h = let n = next_byte bs k (line full) l h in (n.0, left-full start bs k t st (get_or bs k 0 ∷ n.0) (lives_at v) n.1)
 
     no_part : left part (step t (get_or bs k 0)) ≡ never → Begins (line part) (take (k + 1) bs) → ⊥
-    no_part d h = let n = next-part h in subst (λ e. Spells e n.0) d (step_in part t (get_or bs k 0) n.0 (λ e. not_full e) n.1)
+    no_part d h = let n = next-part h in no-part t (get_or bs k 0) n.0 d n.1
 
     no_full : (plain (sort t) ≡ true) ⊎ Slashed start bs k t → step t (get_or bs k 0) ≡ dead → Begins (line full) (take (k + 1) bs) → ⊥
-    no_full v d h = let n = next-full v h in subst (λ s. Spells (left full s) n.0) d (step_in full t (get_or bs k 0) n.0 (λ _. ap (λ s. lettered (sort s)) d) n.1)
+    no_full v d h = let n = next-full v h in rw d at (step_in full t (get_or bs k 0) n.0 (λ _. ap (λ s. lettered (sort s)) d) n.1)
 
   goes_not : (n : ℕ) → (plain (sort t) ≡ true) ⊎ Slashed start bs k t → Halted in_line start bs k t n → k < length bs → GoesOn (line full) (line part) (take (k + 1) bs) → ⊥
   goes_not n v (scan.high l h) m (begins x) = let z = next-part m x in omega (arith, left-low part t (get_or bs k 0) z.0 z.1)
   goes_not n v (scan.high l h) m (slashed p e x y) = let z = next-full m v y in omega (arith, left-low full t (get_or bs k 0) z.0 z.1)
   goes_not n v (scan.unicode l s e) m (begins x) = no_part m (letter-stops start bs k t (get_or bs k 0) s e) x
   goes_not n v (scan.unicode l s e) m (slashed p q x y) =
-      let z = snoc_last (take k bs) p (get_or bs k 0) 92 (sym (take_more bs k 0 l) ∙ q) in
-      ⊎_elim (λ a. let b : ◌≡◌ {A = ℕ} 117 92 = sym a ∙ z in omega arith) (λ a. let b : ◌≡◌ {A = ℕ} 85 92 = sym a ∙ z in omega arith) e
+      let z : get_or bs k 0 ≡ 92 = (same_from_push (take k bs) p (get_or bs k 0) 92 (sym (take_more bs k 0 l) ∙ q)).1 in
+      ⊎_elim (λ a. omega arith) (λ a. omega arith) e
   goes_not n v (scan.other l h d) m (begins x) = no_part m (ap (left part) d) x
   goes_not n v (scan.other l h d) m (slashed p q x y) = no_full m v d y
   goes_not n v (scan.short e h) m g = omega arith
@@ -156,14 +80,13 @@ module _ (bs : List ℕ) (k : ℕ) (t : State) (st : Stands start bs k t) where
   ends_not n (scan.unicode l s u) e x = omega arith
   ends_not n (scan.other l h d) e x = omega arith
   ends_not n (scan.short q h) e x =
-      let w : Spells (line part) (take k bs ++ []) = subst (Spells (line part)) (sym (append-nil (take k bs) ∙ take_all k bs (omega arith))) x in
-      let y = subst (λ s. Spells (left part s) []) st (run-part start (take k bs) [] w) in
-      let z = if_so _ _ (every (λ s. if (in_line (sort s)) (not (nullable (left part s)))) refl refl t) h in
-      both_ways (not (nullable (left part t))) (ap not (nullable_in _ y)) z
+      let w : Spells (line part) (take k bs ++ []) = rw (append-nil, take_all k bs (omega arith)) x in
+      let y = left-part start bs k t st [] w in
+      both_ways _ (not-true _ (where_passed (λ s. in_line (sort s)) (λ s. not (nullable (left part s))) refl t h)) (nullable_in (left part t) y)
 
   reason : (n : ℕ) → (plain (sort t) ≡ true) ⊎ Slashed start bs k t → Halted in_line start bs k t n → Why (line full) bs k n
   reason n v (scan.high l h) = high l h
-  reason n v (scan.unicode l s e) = unicode l e (subst (Begins (line full)) (sym (take_more bs k 0 l)) (begins-full (get_or bs k 0) s e))
+  reason n v (scan.unicode l s e) = unicode l e (rw (take_more bs k 0 l) (begins-full (get_or bs k 0) s e))
   reason n v (scan.other l h d) = other l h (no_full l v d)
   reason n v (scan.short e h) = short e
 

@@ -1,3 +1,4 @@
+pub mod Joins
 pub mod Derivatives
 pub mod Once
 pub mod Spans
@@ -6,8 +7,10 @@ pub mod LL1
 pub mod Pieces
 pub mod Terms
 pub mod Unique
+pub mod States
 pub mod Residue
 pub mod Runs
+pub mod Finishes
 pub mod Halting
 pub mod Steps
 pub mod Moves

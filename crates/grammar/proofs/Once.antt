@@ -1,30 +1,28 @@
 -- A string stops at one place, with one refusal number. Assumes nothing.
-use Rattle.std.proofs.Common.{◌≡◌, ℕ, ◌+◌, ◌<◌, ◌≤◌, ◌⊎◌, List, [], ◌∷◌, ◌++◌, length, take, drop, sym, refl, subst, inl, inr, ⊎_elim, arith}
-use Rattle.std.proofs.lemmas.Bool.{cases_order}
+use Rattle.std.proofs.Common.{◌≡◌, ℕ, ◌+◌, ◌<◌, ◌≤◌, ◌⊎◌, List, [], ◌∷◌, ◌++◌, length, take, drop, refl, inl, inr, ⊎_elim, arith}
+use Rattle.std.proofs.lemmas.Bool.{cases_lt, cases_order}
 use Rattle.std.proofs.lemmas.List.{append_assoc, take-append-drop, take-take}
 use Rattle.grammar.specs.Regular.{Expr, Spells, Begins}
 use Rattle.grammar.specs.Places.{GoesOn, begins, slashed, Why, high, unicode, other, short, Stops}
 
 -- a prefix of what begins a string begins it
-begins_shorter : (e : Expr) (p r : List ℕ) → Begins e (p ++ r) → Begins e p
-begins_shorter e p r (t, x) = (r ++ t, subst (Spells e) (append_assoc p r t) x)
+pub begins_shorter : (e : Expr) (p r : List ℕ) → Begins e (p ++ r) → Begins e p
+begins_shorter e p r (t, x) = (r ++ t, rw append_assoc at x)
 
 -- a prefix of a list with one more byte is all of it, or a prefix of the list
 last_in : (p r q : List ℕ) (c : ℕ) → p ++ r ≡ q ++ c ∷ [] → (p ≡ q ++ c ∷ []) ⊎ ((s : List ℕ) × (q ≡ p ++ s))
 last_in [] r q c e = inr (q, refl)
 last_in (x ∷ []) r [] c e = inl (cc)
-last_in (x ∷ y ∷ p) r [] c e = let z : ◌≡◌ {A = ℕ} 0 1 = cc in absurd (omega arith)
-last_in (x ∷ p) r (y ∷ q) c e =
-    let t : p ++ r ≡ q ++ c ∷ [] = cc in
-    ⊎_elim (λ h. inl (cc)) (λ h. inr (h.0, cc h.1)) (last_in p r q c t)
+last_in (x ∷ y ∷ p) r [] c e = absurd (cc)
+last_in (x ∷ p) r (y ∷ q) c e = ⊎_elim (λ h. inl (cc)) (λ h. inr (h.0, cc h.1)) (last_in p r q c (cc))
 
 module _ (whole ours : Expr) where
-  pub goes_on_shorter : (p r : List ℕ) → GoesOn whole ours (p ++ r) → GoesOn whole ours p
+  goes_on_shorter : (p r : List ℕ) → GoesOn whole ours (p ++ r) → GoesOn whole ours p
   goes_on_shorter p r (begins x) = begins (begins_shorter ours p r x)
   goes_on_shorter p r (slashed q e x y) =
       ⊎_elim
       (λ h. slashed q h x (begins_shorter whole p r y))
-      (λ h. begins (begins_shorter ours p h.0 (subst (Begins ours) h.1 x)))
+      (λ h. begins (begins_shorter ours p h.0 (rw h.1 at x)))
       (last_in p r q 92 e)
 
   within : (bs : List ℕ) (k n : ℕ) → Why whole bs k n → k ≤ length bs
@@ -37,7 +35,7 @@ module _ (whole ours : Expr) where
   goes_on_before : (bs : List ℕ) (j k n : ℕ) → j ≤ k → Stops whole ours bs k n → GoesOn whole ours (take j bs)
   goes_on_before bs j k n h s =
       let e : take k bs ≡ take j bs ++ drop j (take k bs) = cc (take-append-drop j (take k bs), take-take j k bs h) in
-      goes_on_shorter (take j bs) (drop j (take k bs)) (subst (GoesOn whole ours) e s.before)
+      goes_on_shorter (take j bs) (drop j (take k bs)) (rw e at s.before)
 
   -- and so stops at no place before it
   earlier : (bs : List ℕ) (k n l m : ℕ) → k < l → Stops whole ours bs k n → Stops whole ours bs l m → ⊥
@@ -66,7 +64,7 @@ module _ (whole ours : Expr) where
   pub one-stop : (bs : List ℕ) (k n l m : ℕ) → Stops whole ours bs k n → Stops whole ours bs l m → (k ≡ l) × (n ≡ m)
   one-stop bs k n l m s t =
       ⊎_elim
-      (λ e. (e, same-why bs l n m (subst (λ x. Why whole bs x n) e s.why) t.why))
+      (λ e. (e, same-why bs l n m (rw e at s.why) t.why))
       (⊎_elim (λ h. absurd (earlier bs k n l m h s t)) (λ h. absurd (earlier bs l m k n h t s)))
       (cases_order k l)
 
@@ -74,9 +72,4 @@ module _ (whole ours : Expr) where
   pub served : (bs : List ℕ) (k n : ℕ) → Spells ours bs → Stops whole ours bs k n → ⊥
   served bs k n x s =
       let w = within bs k n s.why in
-      ⊎_elim
-      (λ e. s.end e x)
-      (⊎_elim
-      (λ h. s.here h (begins (drop (k + 1) bs, subst (Spells ours) (sym (take-append-drop (k + 1) bs)) x)))
-      (λ h. omega arith))
-      (cases_order k (length bs))
+      ⊎_elim (λ h. s.here h (begins (drop (k + 1) bs, rw take-append-drop x))) (λ h. s.end (omega arith) x) (cases_lt k (length bs))

@@ -1,6 +1,7 @@
 -- The states of Scanner are what is left of the grammar. Assumes nothing.
-use Rattle.std.proofs.Common.{◌≡◌, ℕ, zero, suc, ◌+◌, ◌<◌, ◌≤◌, Bool, true, false, cond, not, ◌&&◌, ◌||◌, List, [], ◌∷◌, map, refl, subst, ⊎_elim, arith}
-use Rattle.std.proofs.lemmas.Bool.{both_ways, and_parts, cases_order}
+use Rattle.std.proofs.Common.{◌≡◌, ℕ, ◌<◌, Bool, true, false, cond, map, get_or, sym, refl, ap, ◌∙◌, arith}
+use Rattle.std.specs.List.{range_with_len}
+use Rattle.std.proofs.lemmas.List.FromFn.{get_or-map-range_with_len}
 use Rattle.grammar.specs.Regular.{Expr, never, empty, one, ◌then◌, ◌or◌, many}
 use Rattle.grammar.specs.Productions.{Extent, full, part, byte, hex, letter, alnum, label_char, iri_char, string_char, escape_letter, comment_char, UCHAR, ECHAR, IRIREF, WS, comment, object, suffix, line}
 use Rattle.grammar.specs.Scanner.{Next, verb, thing, dot, first, last, follows, State, start, iri, slash, under, colon, label, before, string, escape, quoted, at, tag, hyphen, sub, caret, carets, ended, remark, uchar, dead, step, Sort, inner, between, done, slashes, escapes, letters, none, sort}
@@ -68,17 +69,13 @@ lettered escapes = false
 lettered letters = true
 lettered none = false
 
-abbrev up : ℕ → ℕ → List ℕ
-up i zero = []
-up i (suc n) = i ∷ up (suc i) n
-
 -- the derivative at a byte, but after the letter of \u or \U in the whole grammar
 abbrev pub skipped : Extent → State → Expr → Expr
 skipped part s e = e
 skipped full s e = cond (lettered (sort s)) never e
 
 abbrev Row : Extent → State → Type 0
-Row x s = map (λ c. skipped x (step s c) (der c (left x s))) (up 0 128) ≡ map (λ c. left x (step s c)) (up 0 128)
+Row x s = map (λ c. skipped x (step s c) (der c (left x s))) (range_with_len 0 128) ≡ map (λ c. left x (step s c)) (range_with_len 0 128)
 
 -- each row is computed
 row : (s : State) → Row full s × Row part s
@@ -116,75 +113,8 @@ row_of : (x : Extent) (s : State) → Row x s
 row_of full s = (row s).0
 row_of part s = (row s).1
 
-same_at : (f g : ℕ → Expr) (n i c : ℕ) → map f (up i n) ≡ map g (up i n) → i ≤ c → c < i + n → f c ≡ g c
-same_at f g zero i c e l h = absurd (omega arith)
-same_at f g (suc n) i c e l h =
-    ⊎_elim
-    (λ q. subst (λ k. f k ≡ g k) q (let z : f i ≡ g i = cc in z))
-    (⊎_elim
-    (λ q. same_at f g n (suc i) c (let z : map f (up (suc i) n) ≡ map g (up (suc i) n) = cc in z) (omega arith) (omega arith))
-    (λ q. absurd (omega arith)))
-    (cases_order i c)
-
 pub row_at : (x : Extent) (s : State) (c : ℕ) → c < 128 → skipped x (step s c) (der c (left x s)) ≡ left x (step s c)
-row_at x s c h = same_at (λ k. skipped x (step s k) (der k (left x s))) (λ k. left x (step s k)) 128 0 c (row_of x s) (omega arith) (omega arith)
-
--- a test that passes at each state of this list passes at every state
-abbrev states : List State
-states =
-    start ∷ iri verb ∷ iri thing ∷ iri dot ∷ slash verb ∷ slash thing ∷ slash dot ∷ under first ∷ under last ∷ colon first ∷ colon last
-    ∷ label first ∷ label last ∷ before verb ∷ before thing ∷ before dot ∷ string ∷ escape ∷ quoted ∷ at ∷ tag ∷ hyphen ∷ sub ∷ caret
-    ∷ carets ∷ ended ∷ remark ∷ uchar ∷ dead ∷ []
-
-abbrev pub each : (State → Bool) → List State → Bool
-each P [] = true
-each P (s ∷ ss) = P s && each P ss
-
-abbrev nth : List State → ℕ → State
-nth [] i = dead
-nth (s ∷ ss) zero = s
-nth (s ∷ ss) (suc i) = nth ss i
-
-pick : (P : State → Bool) (ss : List State) (i : ℕ) → each P ss ≡ true → P dead ≡ true → P (nth ss i) ≡ true
-pick P [] i h d = d
-pick P (s ∷ ss) zero h d = (and_parts (P s) (each P ss) h).0
-pick P (s ∷ ss) (suc i) h d = pick P ss i (and_parts (P s) (each P ss) h).1 d
-
-pub every : (P : State → Bool) → each P states ≡ true → P dead ≡ true → (s : State) → P s ≡ true
-every P h d start = pick P states 0 h d
-every P h d (iri verb) = pick P states 1 h d
-every P h d (iri thing) = pick P states 2 h d
-every P h d (iri dot) = pick P states 3 h d
-every P h d (slash verb) = pick P states 4 h d
-every P h d (slash thing) = pick P states 5 h d
-every P h d (slash dot) = pick P states 6 h d
-every P h d (under first) = pick P states 7 h d
-every P h d (under last) = pick P states 8 h d
-every P h d (colon first) = pick P states 9 h d
-every P h d (colon last) = pick P states 10 h d
-every P h d (label first) = pick P states 11 h d
-every P h d (label last) = pick P states 12 h d
-every P h d (before verb) = pick P states 13 h d
-every P h d (before thing) = pick P states 14 h d
-every P h d (before dot) = pick P states 15 h d
-every P h d string = pick P states 16 h d
-every P h d escape = pick P states 17 h d
-every P h d quoted = pick P states 18 h d
-every P h d at = pick P states 19 h d
-every P h d tag = pick P states 20 h d
-every P h d hyphen = pick P states 21 h d
-every P h d sub = pick P states 22 h d
-every P h d caret = pick P states 23 h d
-every P h d carets = pick P states 24 h d
-every P h d ended = pick P states 25 h d
-every P h d remark = pick P states 26 h d
-every P h d uchar = pick P states 27 h d
-every P h d dead = d
-
--- a test that is to pass where another does
-abbrev pub if : Bool → Bool → Bool
-if a b = not a || b
-
-pub if_so : (a b : Bool) → if a b ≡ true → a ≡ true → b ≡ true
-if_so true b h k = h
-if_so false b h k = absurd (both_ways false refl k)
+row_at x s c h =
+    sym (get_or-map-range_with_len (λ k. skipped x (step s k) (der k (left x s))) 0 128 c c never h (omega arith))
+    ∙ ap (λ l. get_or l c never) (row_of x s)
+    ∙ get_or-map-range_with_len (λ k. left x (step s k)) 0 128 c c never h (omega arith)

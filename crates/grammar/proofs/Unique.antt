@@ -1,42 +1,40 @@
 -- A line is read in one way, and so is a document, which its lines make up. Assumes nothing.
-use Rattle.std.proofs.Common.{◌≡◌, ℕ, ◌+◌, List, [], ◌∷◌, ◌++◌, length, drop, sym, refl, ◌∙◌, subst}
+use Rattle.std.proofs.Common.{◌≡◌, ℕ, ◌+◌, List, [], ◌∷◌, ◌++◌, length, drop, sym, refl, ◌∙◌, rules}
 use Rattle.std.proofs.lemmas.List.{append-nil}
+use Rattle.std.specs.List.{AllByRecursion, AllZip, concat}
 use Rattle.grammar.specs.Regular.{Expr, empty, ◌then◌, Spells}
 use Rattle.grammar.specs.Productions.{part, full, byte, WS, comment, subject, predicate, object, rest, line}
-use Rattle.grammar.specs.Readings.{Kind, production, Term, Reading, a_triple, a_comment, nothing, a_fault, Fits, Holds, Reads}
+use Rattle.grammar.specs.Readings.{Term, Reading, a_triple, a_comment, nothing, a_fault, Fits, Holds, Reads}
 use Rattle.grammar.specs.Documents.{EndsLine, Unbroken, Ending, by, at_end, Cut, LineAt, Row, Lines, none, more, joined}
 use Rattle.grammar.proofs.Once.{one-stop, served}
-use Rattle.grammar.proofs.Spans.{no_cons, All, First, one-run}
-use Rattle.grammar.proofs.Pieces.{Pieces, thens, flat, pieces_spell, same_pieces, not_both-after}
+use Rattle.grammar.proofs.Spans.{First, one-run}
+use Rattle.grammar.proofs.Pieces.{thens, pieces_spell, same_pieces, not_both-after}
 use Rattle.grammar.proofs.Terms.{one-kind}
 
 -- a line with a triple, after the blanks before it
 abbrev after-blanks : List Expr
 after-blanks = subject part ∷ WS ∷ predicate part ∷ WS ∷ object part ∷ WS ∷ byte 46 ∷ rest ∷ []
 
--- terms with equal fields, and then terms that fit and have equal texts and offsets, are equal
-term_is : (s t : Term) → s.kind ≡ t.kind → s.text ≡ t.text → s.offset ≡ t.offset → s ≡ t
-term_is s t p q r =
-    let term : Kind → List ℕ → ℕ → Term = λ k u n. record { kind = k; text = u; offset = n } in
-    let e : term s.kind s.text s.offset ≡ term t.kind t.text t.offset = cc in e
-
+-- terms that fit and have equal texts and offsets are equal
 same_term : (e f : Expr) (s t : Term) → Fits e s → Fits f t → s.text ≡ t.text → s.offset ≡ t.offset → s ≡ t
-same_term e f s t h k p q = term_is s t (one-kind s.kind t.kind t.text (subst (Spells (production s.kind)) p h.of_kind) k.of_kind) p q
+same_term e f s t h k p q =
+    let r = one-kind s.kind t.kind t.text (rw p at h.of_kind) k.of_kind in
+    search rules
 
 -- the parts of a line with a triple
 module _ {base : ℕ} {bs : List ℕ} {at : ℕ} {s p o : Term} (h : Holds base bs at s p o) where
   abbrev parts-after : List (List ℕ)
   parts-after = s.text ∷ h.w₂ ∷ p.text ∷ h.w₃ ∷ o.text ∷ h.w₄ ∷ (46 ∷ []) ∷ h.tail ∷ []
 
-  parts_are : Pieces after-blanks parts-after
+  parts_are : AllZip Spells after-blanks parts-after
   parts_are =
       (h.is_subject.allowed, (h.blanks.1, (h.is_predicate.allowed, (h.blanks.2, (h.is_object.allowed, (h.blanks.3, ((46, refl, refl), (h.ends, tt))))))))
 
-  split_is : bs ≡ h.w₁ ++ flat parts-after
+  split_is : bs ≡ h.w₁ ++ concat parts-after
   split_is = simp append-nil h.split
 
   triple_spells : Spells (WS then thens after-blanks) bs
-  triple_spells = (h.w₁, flat parts-after, split_is, h.blanks.0, pieces_spell after-blanks parts-after parts_are)
+  triple_spells = (h.w₁, concat parts-after, split_is, h.blanks.0, pieces_spell after-blanks parts-after parts_are)
 
 module _ (base : ℕ) (bs : List ℕ) where
   same-triple : (at at' : ℕ) (s p o s' p' o' : Term) → Holds base bs at s p o → Holds base bs at' s' p' o' → a_triple at s p o ≡ a_triple at' s' p' o'
@@ -84,18 +82,18 @@ module _ (base : ℕ) (bs : List ℕ) where
       let c = one-stop (line full) (line part) bs h.0 n k.0 m h.2 k.2 in
       cc (h.1, k.1)
 
-unbroken-all : (u : List ℕ) → Unbroken u → All (λ c. EndsLine c → ⊥) u
+unbroken-all : (u : List ℕ) → Unbroken u → AllByRecursion (λ c. EndsLine c → ⊥) u
 unbroken-all [] h = tt
 unbroken-all (c ∷ u) h = (h.0, unbroken-all u h.1)
 
 ending-first : (e a : List ℕ) → Ending a e → First EndsLine (e ++ a)
 ending-first e a (by c h) = h
-ending-first e a (at_end h) = subst (First EndsLine) (sym h) tt
+ending-first e a (at_end h) = rw h tt
 
 same-ending : (e a e' a' : List ℕ) → Ending a e → Ending a' e' → e ++ a ≡ e' ++ a' → (e ≡ e') × (a ≡ a')
-same-ending e a e' a' (by c h) (by d k) p = let q : c ∷ a ≡ d ∷ a' = p in (cc, cc)
-same-ending e a e' a' (by c h) (at_end k) p = absurd (no_cons c a (p ∙ k))
-same-ending e a e' a' (at_end h) (by d k) p = absurd (no_cons d a' (sym p ∙ h))
+same-ending e a e' a' (by c h) (by d k) p = (cc, cc)
+same-ending e a e' a' (by c h) (at_end k) p = absurd (cc)
+same-ending e a e' a' (at_end h) (by d k) p = absurd (cc)
 same-ending e a e' a' (at_end h) (at_end k) p = (refl, p)
 
 pub one-cut : (text b e a b' e' a' : List ℕ) → Cut text b e a → Cut text b' e' a' → (b ≡ b') × (e ≡ e') × (a ≡ a')
@@ -109,15 +107,10 @@ one-cut text b e a b' e' a' h k =
 pub one_line : (text : List ℕ) (from : ℕ) (r t : Reading) (n m : ℕ) → LineAt text from r n → LineAt text from t m → (r ≡ t) × (n ≡ m)
 one_line text from r t n m h k =
     let c = one-cut (drop from text) h.bs h.ending (drop n text) k.bs k.ending (drop m text) h.cut k.cut in
-    (one-reading from k.bs r t (subst (λ u. Reads from u r) c.0 h.reads) k.reads, cc (c.0, c.1))
-
-row_is : (r s : Row) → r.offset ≡ s.offset → r.text ≡ s.text → r.ending ≡ s.ending → r.reading ≡ s.reading → r ≡ s
-row_is r s p q x y =
-    let row : ℕ → List ℕ → List ℕ → Reading → Row = λ n u e t. record { offset = n; text = u; ending = e; reading = t } in
-    let e : row r.offset r.text r.ending r.reading ≡ row s.offset s.text s.ending s.reading = cc in e
+    (one-reading from k.bs r t (rw c.0 at h.reads) k.reads, cc (c.0, c.1))
 
 lines_moved : {i j : ℕ} {u v : List ℕ} {rows : List Row} → i ≡ j → u ≡ v → Lines i u rows → Lines j v rows
-lines_moved {i} {v = v} {rows = rows} p q l = subst (λ n. Lines n v rows) p (subst (λ t. Lines i t rows) q l)
+lines_moved {i} {v = v} {rows = rows} p q l = rw (p, q) at l
 
 pub one_lines : (at : ℕ) (text : List ℕ) (rows rows' : List Row) → Lines at text rows → Lines at text rows' → rows ≡ rows'
 one_lines at text rows rows' none none = refl
@@ -125,8 +118,8 @@ one_lines at text rows rows' none (more after c o r l) = absurd (c.some refl)
 one_lines at text rows rows' (more after c o r l) none = absurd (c.some refl)
 one_lines at text (row ∷ rows) (row' ∷ rows') (more after c o r l) (more after' c' o' r' l') =
     let e = one-cut text row.text row.ending after row'.text row'.ending after' c c' in
-    let s = one-reading at row'.text row.reading row'.reading (subst (λ u. Reads at u row.reading) e.0 r) r' in
-    let i = row_is row row' (o ∙ sym o') e.0 e.1 s in
+    let s = one-reading at row'.text row.reading row'.reading (rw e.0 at r) r' in
+    let i : row ≡ row' = search (rules, o ∙ sym o', e, s) in
     let j = one_lines (at + length row'.text + length row'.ending) after' rows rows' (lines_moved (cc) e.2 l) l' in
     cc
 
