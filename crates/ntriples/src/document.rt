@@ -35,6 +35,27 @@ fn line_end(text: &[u8], from: usize) -> usize
     }
 }
 
+// Where the line after the one that ends at `end` begins.
+fn next_start(text: &[u8], end: usize) -> usize
+    requires within { end ≤ length text.now }
+    ensures { (end < length text.now → result ≡ end + 1) × (length text.now ≤ end → result ≡ end) }
+{
+    (end + 1).min(text.len())
+}
+
+// The line from `from` up to `end`.
+fn line_between<'a>(text: &'a [u8], from: usize, end: usize) -> LineRead<'a>
+    requires here { (from < length text.now) × (from ≤ end) × (end ≤ length text.now) }
+    requires unbroken { (k : ℕ) → from ≤ k → k < end → ¬ EndsLine (slice_index text.now k) }
+    requires ended { end < length text.now → EndsLine (slice_index text.now end) }
+    ensures reads { LineAt text.now from (reading result.outcome) result.next }
+    ensures only { (o : Reading) (n : ℕ) → LineAt text.now from o n → (o ≡ reading result.outcome) × (n ≡ result.next) }
+{
+    let outcome = read(&text[from..end], from);
+    let next = next_start(text, end);
+    LineRead { outcome, next }
+}
+
 // The line of the document that begins at `from`: what it is read as, and where the next line begins; none
 // where the document has ended.
 pub fn read_line<'a>(text: &'a [u8], from: usize) -> Option<LineRead<'a>>
@@ -45,7 +66,5 @@ pub fn read_line<'a>(text: &'a [u8], from: usize) -> Option<LineRead<'a>>
         return None;
     }
     let end = line_end(text, from);
-    let outcome = read(&text[from..end], from);
-    let next = (end + 1).min(text.len());
-    Some(LineRead { outcome, next })
+    Some(line_between(text, from, end))
 }
