@@ -1,7 +1,7 @@
 // A place in a line, from which the line is read on.
-ghost use Rattle.std.specs.Prelude.{◌≡◌, ℕ, ◌+◌, ◌-◌, ◌<◌, ◌≤◌, Bool, false, length, slice_index, position, not, MatchOption, MatchResult, ◌≢◌};
+ghost use Rattle.std.specs.Prelude.{◌≡◌, ◌+◌, ◌<◌, ◌≤◌, Bool, false, length, slice_index, position, not, MatchOption, MatchResult, ◌≢◌};
 ghost use Rattle.grammar.specs.Regular.{inside};
-ghost use Rattle.grammar.specs.Scanner.{State, Sort, in_term, Stuck, StuckEscape, Halts, piece, RunTo};
+ghost use Rattle.grammar.specs.Scanner.{State, Sort, in_term, Stuck, StuckEscape, piece, RunTo};
 
 use crate::fault::{Fault, FaultKind};
 use grammar::class::{Class, UcharLetters};
@@ -15,7 +15,6 @@ pub(crate) struct Cursor<'a> {
 }
 
 impl<'a> Cursor<'a> {
-    ghost use Rattle.ntriples.specs.Answers.{number};
     ghost use Rattle.ntriples.specs.Cursors.{NextIs, HaltsBy, Refuses};
 
     // Where the line begins.

@@ -1,5 +1,5 @@
 // The lines of a document, one after another.
-ghost use Rattle.std.specs.Prelude.{◌≡◌, ℕ, ◌+◌, ◌-◌, ◌<◌, ◌≤◌, ◌==◌, ◌||◌, length, drop, position, IsSomeAnd, MatchOption, slice_index};
+ghost use Rattle.std.specs.Prelude.{◌≡◌, ℕ, ◌+◌, ◌<◌, ◌≤◌, ◌==◌, ◌||◌, length, position, IsSomeAnd, MatchOption, slice_index};
 ghost use Rattle.grammar.specs.Readings.{Reading};
 ghost use Rattle.grammar.specs.Documents.{EndsLine, LineAt};
 ghost use Rattle.ntriples.specs.Answers.{reading};

@@ -1,8 +1,8 @@
 // The forms of terms. A form is a type, so that what all terms have in common is written and proved once.
-ghost use Rattle.std.specs.Prelude.{◌≡◌, ℕ, ◌+◌, ◌^◌, ◌<◌, ◌≤◌, Bool, length, MatchResult, slice_index};
+ghost use Rattle.std.specs.Prelude.{◌≡◌, ◌+◌, ◌^◌, ◌<◌, ◌≤◌, length, MatchResult};
 ghost use Rattle.grammar.specs.Regular.{Is};
 ghost use Rattle.grammar.specs.Readings.{Kind, an_iri, a_label, a_literal, production};
-ghost use Rattle.grammar.specs.Scanner.{Next, State, Sort, in_term, Stands, Halts, Ended, piece};
+ghost use Rattle.grammar.specs.Scanner.{Next, State, in_term, Ended, piece};
 
 use crate::cursor::Cursor;
 use crate::fault::Fault;

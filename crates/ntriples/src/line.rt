@@ -1,11 +1,10 @@
 // One line, without its end, as the grammar reads it.
-ghost use Rattle.std.specs.Prelude.{◌≡◌, ℕ, ◌+◌, ◌-◌, ◌^◌, ◌<◌, ◌≤◌, Bool, false, length, IfOk, IfErr, MatchResult, ◌≢◌, slice_index};
-ghost use Rattle.grammar.specs.Regular.{inside, Spells, Is};
-ghost use Rattle.grammar.specs.Productions.{full, part, blank, subject, predicate, object, comment, rest, line as whole_line};
-ghost use Rattle.grammar.specs.Places.{Stops};
-ghost use Rattle.grammar.specs.Readings.{Fits, Holds, Reads};
-ghost use Rattle.grammar.specs.Scanner.{verb, thing, dot, State, start, ended, remark, Sort, in_line, Stands, Halts, Ended, piece, RunTo};
-ghost use Rattle.ntriples.specs.Answers.{number, bytes_of, term_of, line_reading, reading};
+ghost use Rattle.std.specs.Prelude.{◌≡◌, ◌+◌, ◌^◌, ◌<◌, ◌≤◌, false, length, IfOk, IfErr, MatchResult, ◌≢◌, slice_index};
+ghost use Rattle.grammar.specs.Regular.{inside, Is};
+ghost use Rattle.grammar.specs.Productions.{part, blank, subject, predicate, object, comment, rest};
+ghost use Rattle.grammar.specs.Readings.{Reads};
+ghost use Rattle.grammar.specs.Scanner.{verb, thing, dot, State, start, ended, remark, in_line, Stands, Halts, Ended, piece, RunTo};
+ghost use Rattle.ntriples.specs.Answers.{number, line_reading, reading};
 
 use crate::cursor::Cursor;
 use crate::fault::Fault;

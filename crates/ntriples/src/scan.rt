@@ -1,15 +1,15 @@
 // Where the terms of a line end: one method for each production of a term.
-ghost use Rattle.std.specs.Prelude.{◌≡◌, ℕ, ◌+◌, ◌-◌, ◌<◌, ◌≤◌, Bool, length, MatchResult, ◌≢◌, slice_index};
-ghost use Rattle.grammar.specs.Regular.{inside, Is};
+ghost use Rattle.std.specs.Prelude.{◌≡◌, ◌≤◌, length, MatchResult};
+ghost use Rattle.grammar.specs.Regular.{Is};
 ghost use Rattle.grammar.specs.Productions.{part, IRIREF, BLANK_NODE_LABEL, STRING_LITERAL_QUOTE, LANGTAG, ECHAR, subtag, suffix, literal, datatype};
-ghost use Rattle.grammar.specs.Scanner.{Next, dot, Role, follows, State, iri, before, under, string, quoted, at, caret, Sort, in_term, Stands, Halts, Ended, Tagged, piece};
+ghost use Rattle.grammar.specs.Scanner.{Next, dot, Role, follows, State, iri, before, under, string, quoted, at, caret, Stands, Ended, Tagged, piece};
 
 use crate::cursor::Cursor;
 use crate::fault::Fault;
 use grammar::class::{Alnums, Class, EscapeLetters, IriChars, LabelChars, Letters, StringChars};
 
 impl<'a> Cursor<'a> {
-    ghost use Rattle.ntriples.specs.Cursors.{NextIs, Finds, Enters, HaltsBy, ScansTo};
+    ghost use Rattle.ntriples.specs.Cursors.{NextIs, Finds, Enters, ScansTo};
 
     // IRIREF, whose `<` is here.
     pub fn iri(self) -> Result<Cursor<'a>, Fault>
