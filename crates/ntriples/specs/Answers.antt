@@ -6,8 +6,6 @@ use Rattle.ntriples.specs.declared.fault.FaultKind.TheVariants.{HighByte, Unicod
 use Rattle.ntriples.specs.declared.fault.Fault.{Fault}
 use Rattle.ntriples.specs.declared.token.Token.{Token}
 use Rattle.ntriples.specs.declared.token.Token.TheVariants.{Iri, Label, Literal}
-use Rattle.ntriples.specs.declared.term.NameForm.{NameForm}
-use Rattle.ntriples.specs.declared.term.NameForm.TheVariants.{Iri as NameIri, Literal as NameLiteral}
 use Rattle.ntriples.specs.declared.token.Located.{Located}
 use Rattle.ntriples.specs.declared.token.Line.{Line}
 use Rattle.ntriples.specs.declared.token.Line.TheVariants.{Triple, Comment, Empty}
@@ -17,11 +15,6 @@ abbrev pub number : FaultKind → ℕ
 number HighByte = 1
 number UnicodeEscape = 2
 number Unexpected = 3
-
--- the kind of a name's form
-abbrev pub form_kind : NameForm → Kind
-form_kind NameIri = an_iri
-form_kind NameLiteral = a_literal
 
 -- the kind and the bytes of a token
 abbrev pub kind_of : Token → Kind

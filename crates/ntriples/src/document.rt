@@ -1,5 +1,5 @@
 // The lines of a document, one after another.
-ghost use Rattle.std.specs.Prelude.{◌≡◌, ℕ, ◌+◌, ◌-◌, ◌<◌, ◌≤◌, length, IsSomeAnd, MatchBool, MatchOption, slice_index};
+ghost use Rattle.std.specs.Prelude.{◌≡◌, ℕ, ◌+◌, ◌<◌, ◌≤◌, ◌==◌, ◌||◌, length, position, IsSomeAnd, MatchOption, slice_index};
 ghost use Rattle.grammar.specs.Readings.{Reading};
 ghost use Rattle.grammar.specs.Documents.{EndsLine, LineAt};
 ghost use Rattle.ntriples.specs.Answers.{reading};
@@ -15,6 +15,13 @@ pub struct LineRead<'a> {
     pub next: usize,
 }
 
+// The first LF or CR.
+fn line_break(text: &[u8]) -> Option<usize>
+    ensures { result ≡ position (λ b. (b == 10) || (b == 13)) text.now }
+{
+    text.iter().position(|b| *b == b'\n' || *b == b'\r')
+}
+
 // The end of the line that begins at `from`, where LF, CR or nothing more stands.
 fn line_end(text: &[u8], from: usize) -> usize
     requires within { from ≤ length text.now }
@@ -22,25 +29,18 @@ fn line_end(text: &[u8], from: usize) -> usize
     ensures unbroken { (k : ℕ) → from ≤ k → k < result → ¬ EndsLine (slice_index text.now k) }
     ensures ended { result < length text.now → EndsLine (slice_index text.now result) }
 {
-    let mut pos = from;
-    while pos < text.len() && text[pos] != b'\n' && text[pos] != b'\r' {
-        pos += 1;
+    match line_break(&text[from..]) {
+        Some(n) => from + n,
+        None => text.len(),
     }
-    pos
 }
 
 // Where the line after the one that ends at `end` begins.
 fn next_start(text: &[u8], end: usize) -> usize
+    requires within { end ≤ length text.now }
     ensures { (end < length text.now → result ≡ end + 1) × (length text.now ≤ end → result ≡ end) }
 {
-    if end < text.len() { end + 1 } else { end }
-}
-
-// Whether the document has no line at `from`.
-fn is_over(text: &[u8], from: usize) -> bool
-    ensures { MatchBool result ((length text.now ≤ from) × ((o : Reading) (n : ℕ) → ¬ LineAt text.now from o n)) (from < length text.now) }
-{
-    from >= text.len()
+    (end + 1).min(text.len())
 }
 
 // The line from `from` up to `end`.
@@ -62,7 +62,7 @@ pub fn read_line<'a>(text: &'a [u8], from: usize) -> Option<LineRead<'a>>
     ensures reads { MatchOption result (length text.now ≤ from) (λ x. LineAt text.now from (reading x.outcome) x.next) }
     ensures only { (o : Reading) (n : ℕ) → LineAt text.now from o n → IsSomeAnd result (λ x. (o ≡ reading x.outcome) × (n ≡ x.next)) }
 {
-    if is_over(text, from) {
+    if from >= text.len() {
         return None;
     }
     let end = line_end(text, from);

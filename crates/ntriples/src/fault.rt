@@ -6,11 +6,11 @@ ghost use Rattle.ntriples.specs.Answers.{number};
 #[derive(Clone, Copy, Debug, PartialEq, Eq)]
 pub enum FaultKind {
     // a byte above 127
-    HighByte,
+    HighByte = 1,
     // the letter of `\u` or `\U`
-    UnicodeEscape,
+    UnicodeEscape = 2,
     // any other byte, or the line's end
-    Unexpected,
+    Unexpected = 3,
 }
 
 impl FaultKind {
@@ -18,11 +18,7 @@ impl FaultKind {
     pub fn number(self) -> u8
         ensures { result ≡ number self }
     {
-        match self {
-            FaultKind::HighByte => 1,
-            FaultKind::UnicodeEscape => 2,
-            FaultKind::Unexpected => 3,
-        }
+        self as u8
     }
 }
 
@@ -40,8 +36,8 @@ impl Fault {
         ensures { (result.kind ≡ self.kind) × (result.offset ≡ base + self.offset) }
     {
         Fault {
-            kind: self.kind,
             offset: base + self.offset,
+            ..self
         }
     }
 }

@@ -3,8 +3,10 @@
 
 #![tactic(auto)]
 
+mod cursor;
 pub mod document;
 pub mod fault;
+mod form;
 mod line;
 mod scan;
 pub mod term;

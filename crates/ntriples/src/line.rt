@@ -1,160 +1,108 @@
 // One line, without its end, as the grammar reads it.
-ghost use Rattle.std.specs.Prelude.{◌≡◌, ℕ, ◌+◌, ◌-◌, ◌^◌, ◌<◌, ◌≤◌, false, length, IfErr, MatchResult, ◌≢◌, slice_index};
-ghost use Rattle.grammar.specs.Regular.{inside, Spells, Is};
-ghost use Rattle.grammar.specs.Productions.{full, part, blank, subject, predicate, object, comment, rest, line as whole_line};
-ghost use Rattle.grammar.specs.Places.{Stops};
-ghost use Rattle.grammar.specs.Readings.{Fits, Holds, Reads};
+ghost use Rattle.std.specs.Prelude.{◌≡◌, ◌+◌, ◌^◌, ◌<◌, ◌≤◌, false, length, IfOk, IfErr, MatchResult, ◌≢◌, slice_index};
+ghost use Rattle.grammar.specs.Regular.{inside, Is};
+ghost use Rattle.grammar.specs.Productions.{part, blank, subject, predicate, object, comment, rest};
+ghost use Rattle.grammar.specs.Readings.{Reads};
 ghost use Rattle.grammar.specs.Scanner.{verb, thing, dot, State, start, ended, remark, in_line, Stands, Halts, Ended, piece, RunTo};
-ghost use Rattle.ntriples.specs.Answers.{number, bytes_of, term_of, line_reading, reading};
+ghost use Rattle.ntriples.specs.Answers.{number, line_reading, reading};
 
+use crate::cursor::Cursor;
 use crate::fault::Fault;
-use crate::scan::{expect, iri_end, label_end, literal_end, run_end, stuck};
-use crate::token::{Line, Located, Statement, Token};
+use crate::form::{Found, Iri, Label, Literal};
+use crate::token::{Line, Located, Statement};
 use grammar::class::{Blanks, CommentChars};
 
-// A term of the line, and where it ends.
-#[derive(Clone, Copy)]
-pub(crate) struct Found<'a> {
-    pub token: Token<'a>,
-    pub end: usize,
-}
+impl<'a> Cursor<'a> {
+    ghost use Rattle.ntriples.specs.Cursors.{NextIs, FindsTerm, Enters, HaltsBy};
 
-// The comment whose `#` is at `from`, up to the line's end.
-fn comment_at(line: &[u8], from: usize) -> Result<(), Fault>
-    requires here { (from < length line.now) × (slice_index line.now from ≡ 35) }
-    ensures found { MatchResult result (λ _. Is comment (piece line.now from (length line.now))) (λ f. f.offset ≤ length line.now) }
-    ensures goes { (s : State) → Stands s line.now (from + 1) remark → IfErr result (λ f. Halts in_line s line.now f.offset (number f.kind)) }
-{
-    let end = run_end::<CommentChars>(line, from + 1);
-    if end < line.len() {
-        return Err(stuck(line, end));
+    // The comment whose `#` is here, up to the line's end.
+    fn comment(self) -> Result<(), Fault>
+        requires here { NextIs self 35 }
+        ensures found { MatchResult result (λ _. Is comment (piece self.entry.line.now self.entry.pos (length self.entry.line.now))) (λ f. f.offset ≤ length self.entry.line.now) }
+        ensures goes { (s : State) → Enters s self.entry remark → IfErr result (λ f. HaltsBy in_line s self.entry f) }
+    {
+        let end = self.advance().past::<CommentChars>();
+        match end.peek() {
+            None => Ok(()),
+            Some(_) => Err(end.stuck()),
+        }
     }
-    Ok(())
-}
 
-// What may follow the dot, at `from`, up to the line's end.
-fn rest_at(line: &[u8], from: usize) -> Result<(), Fault>
-    requires within { from ≤ length line.now }
-    ensures found { MatchResult result (λ _. Is rest (piece line.now from (length line.now))) (λ f. f.offset ≤ length line.now) }
-    ensures goes { (s : State) → Stands s line.now from ended → IfErr result (λ f. Halts in_line s line.now f.offset (number f.kind)) }
-{
-    let end = run_end::<Blanks>(line, from);
-    if end >= line.len() {
-        return Ok(());
+    // What may follow the dot, up to the line's end.
+    fn rest(self) -> Result<(), Fault>
+        ensures found { MatchResult result (λ _. Is rest (piece self.entry.line.now self.entry.pos (length self.entry.line.now))) (λ f. f.offset ≤ length self.entry.line.now) }
+        ensures goes { (s : State) → Stands s self.entry.line.now self.entry.pos ended → IfErr result (λ f. HaltsBy in_line s self.entry f) }
+    {
+        let end = self.past::<Blanks>();
+        match end.peek() {
+            None => Ok(()),
+            Some(b'#') => end.comment(),
+            Some(_) => Err(end.stuck()),
+        }
     }
-    if line[end] != b'#' {
-        return Err(stuck(line, end));
-    }
-    comment_at(line, end)
-}
 
-// The subject at `from`, where no blank and no comment begins.
-fn subject_at<'a>(line: &'a [u8], from: usize) -> Result<Found<'a>, Fault>
-    requires here { (from < length line.now) × (inside blank (slice_index line.now from) ≡ false) × (slice_index line.now from ≢ 35) }
-    ensures found { MatchResult result (λ x. (from < x.end) × (x.end ≤ length line.now) × (bytes_of x.token ≡ piece line.now from x.end) × ((k : ℕ) → Fits (subject part) (term_of x.token k))) (λ f. f.offset ≤ length line.now) }
-    ensures goes { (s : State) → Stands s line.now from start → MatchResult result (λ x. Ended s line.now x.end verb) (λ f. Halts in_line s line.now f.offset (number f.kind)) }
-{
-    if line[from] == b'<' {
-        let end = iri_end(line, from)?;
-        return Ok(Found {
-            token: Token::Iri(&line[from..end]),
-            end,
-        });
+    // The subject, where no blank and no comment begins.
+    fn subject(self) -> Result<Found<'a>, Fault>
+        requires here { (self.pos < length self.line.now) × (inside blank (slice_index self.line.now self.pos) ≡ false) × (slice_index self.line.now self.pos ≢ 35) }
+        ensures at { IfOk result (λ x. x.start.pos ≡ self.entry.pos) }
+        ensures found { FindsTerm (subject part) self.entry result }
+        ensures goes { (s : State) → Stands s self.entry.line.now self.entry.pos start → MatchResult result (λ x. Ended s self.entry.line.now x.end.pos verb) (λ f. HaltsBy in_line s self.entry f) }
+    {
+        match self.peek() {
+            Some(b'<') => self.term::<Iri>(),
+            Some(b'_') => self.term::<Label>(),
+            _ => Err(self.stuck()),
+        }
     }
-    if line[from] == b'_' {
-        let end = label_end(line, from)?;
-        return Ok(Found {
-            token: Token::Label(&line[from..end]),
-            end,
-        });
-    }
-    Err(stuck(line, from))
-}
 
-// The predicate at `from`, after blanks.
-fn predicate_at<'a>(line: &'a [u8], from: usize) -> Result<Found<'a>, Fault>
-    requires here { (from ≤ length line.now) × (from < length line.now → inside blank (slice_index line.now from) ≡ false) }
-    ensures found { MatchResult result (λ x. (from < x.end) × (x.end ≤ length line.now) × (bytes_of x.token ≡ piece line.now from x.end) × ((k : ℕ) → Fits (predicate part) (term_of x.token k))) (λ f. f.offset ≤ length line.now) }
-    ensures goes { (s : State) → Ended s line.now from verb → MatchResult result (λ x. Ended s line.now x.end thing) (λ f. Halts in_line s line.now f.offset (number f.kind)) }
-{
-    let _ = expect(line, from, b'<')?;
-    let end = iri_end(line, from)?;
-    Ok(Found {
-        token: Token::Iri(&line[from..end]),
-        end,
-    })
-}
+    // The predicate, after blanks.
+    fn predicate(self) -> Result<Found<'a>, Fault>
+        ensures found { FindsTerm (predicate part) self.entry result }
+        ensures goes { (s : State) → Ended s self.entry.line.now self.entry.pos verb → MatchResult result (λ x. Ended s self.entry.line.now x.end.pos thing) (λ f. HaltsBy in_line s self.entry f) }
+    {
+        let start = self.past::<Blanks>();
+        match start.peek() {
+            Some(b'<') => start.term::<Iri>(),
+            _ => Err(start.stuck()),
+        }
+    }
 
-// The object at `from`, after blanks.
-fn object_at<'a>(line: &'a [u8], from: usize) -> Result<Found<'a>, Fault>
-    requires here { (from ≤ length line.now) × (from < length line.now → inside blank (slice_index line.now from) ≡ false) }
-    ensures found { MatchResult result (λ x. (from < x.end) × (x.end ≤ length line.now) × (bytes_of x.token ≡ piece line.now from x.end) × ((k : ℕ) → Fits (object part) (term_of x.token k))) (λ f. f.offset ≤ length line.now) }
-    ensures goes { (s : State) → Ended s line.now from thing → MatchResult result (λ x. Ended s line.now x.end dot) (λ f. Halts in_line s line.now f.offset (number f.kind)) }
-{
-    if from >= line.len() {
-        return Err(stuck(line, from));
+    // The object, after blanks.
+    fn object(self) -> Result<Found<'a>, Fault>
+        ensures found { FindsTerm (object part) self.entry result }
+        ensures goes { (s : State) → Ended s self.entry.line.now self.entry.pos thing → MatchResult result (λ x. Ended s self.entry.line.now x.end.pos dot) (λ f. HaltsBy in_line s self.entry f) }
+    {
+        let start = self.past::<Blanks>();
+        match start.peek() {
+            Some(b'<') => start.term::<Iri>(),
+            Some(b'_') => start.term::<Label>(),
+            Some(b'"') => start.term::<Literal>(),
+            _ => Err(start.stuck()),
+        }
     }
-    if line[from] == b'<' {
-        let end = iri_end(line, from)?;
-        return Ok(Found {
-            token: Token::Iri(&line[from..end]),
-            end,
-        });
-    }
-    if line[from] == b'_' {
-        let end = label_end(line, from)?;
-        return Ok(Found {
-            token: Token::Label(&line[from..end]),
-            end,
-        });
-    }
-    if line[from] == b'"' {
-        let end = literal_end(line, from)?;
-        return Ok(Found {
-            token: Token::Literal(&line[from..end]),
-            end,
-        });
-    }
-    Err(stuck(line, from))
-}
 
-// The triple of a line whose subject is at `from`, after blanks, up to the line's end. The offsets of the triple
-// and its terms count from the document's first byte, a fault's from the line's.
-fn statement_at<'a>(
-    line: &'a [u8],
-    from: usize,
-    base: usize,
-) -> Result<Located<Statement<'a>>, Fault>
-    requires here { (from < length line.now) × (slice_index line.now from ≢ 35) × RunTo blank line.now 0 from }
-    requires fits { base + length line.now < 2 ^ 64 }
-    ensures { MatchResult result (λ t. Reads base line.now (line_reading (Line.Triple t))) (λ f. (f.offset ≤ length line.now) × Halts in_line start line.now f.offset (number f.kind)) }
-{
-    let subject = subject_at(line, from)?;
-    let middle = run_end::<Blanks>(line, subject.end);
-    let predicate = predicate_at(line, middle)?;
-    let last = run_end::<Blanks>(line, predicate.end);
-    let object = object_at(line, last)?;
-    let stop = run_end::<Blanks>(line, object.end);
-    let after = expect(line, stop, b'.')?;
-    rest_at(line, after)?;
-    let item = Statement {
-        subject: Located {
-            item: subject.token,
-            offset: base + from,
-        },
-        predicate: Located {
-            item: predicate.token,
-            offset: base + middle,
-        },
-        object: Located {
-            item: object.token,
-            offset: base + last,
-        },
-    };
-    Ok(Located {
-        item,
-        offset: base + from,
-    })
+    // The triple of a line whose subject is here, after blanks, up to the line's end. The offsets of the triple
+    // and its terms count from the document's first byte, a fault's from the line's.
+    fn statement(self, base: usize) -> Result<Located<Statement<'a>>, Fault>
+        requires here { (self.pos < length self.line.now) × (slice_index self.line.now self.pos ≢ 35) × RunTo blank self.line.now 0 self.pos }
+        requires fits { base + length self.line.now < 2 ^ 64 }
+        ensures { MatchResult result (λ t. Reads base self.entry.line.now (line_reading (Line.Triple t))) (λ f. (f.offset ≤ length self.entry.line.now) × HaltsBy in_line start self.entry f) }
+    {
+        let subject = self.subject()?;
+        let predicate = subject.end.predicate()?;
+        let object = predicate.end.object()?;
+        let after = object.end.past::<Blanks>().expect(b'.')?;
+        after.rest()?;
+        let item = Statement {
+            subject: subject.located(base),
+            predicate: predicate.located(base),
+            object: object.located(base),
+        };
+        Ok(Located {
+            item,
+            offset: base + self.pos,
+        })
+    }
 }
 
 // What the line holds; a fault's offset counts from the line's first byte.
@@ -162,16 +110,18 @@ fn content<'a>(line: &'a [u8], base: usize) -> Result<Line<'a>, Fault>
     requires fits { base + length line.now < 2 ^ 64 }
     ensures { MatchResult result (λ l. Reads base line.now (line_reading l)) (λ f. (f.offset ≤ length line.now) × Halts in_line start line.now f.offset (number f.kind)) }
 {
-    let from = run_end::<Blanks>(line, 0);
-    if from >= line.len() {
-        return Ok(Line::Empty);
+    let from = Cursor::new(line).past::<Blanks>();
+    match from.peek() {
+        None => Ok(Line::Empty),
+        Some(b'#') => {
+            from.comment()?;
+            Ok(Line::Comment)
+        }
+        Some(_) => {
+            let triple = from.statement(base)?;
+            Ok(Line::Triple(triple))
+        }
     }
-    if line[from] == b'#' {
-        comment_at(line, from)?;
-        return Ok(Line::Comment);
-    }
-    let triple = statement_at(line, from, base)?;
-    Ok(Line::Triple(triple))
 }
 
 // What the line, whose first byte has the offset `base` in its document, is read as.
@@ -179,8 +129,5 @@ pub(crate) fn read<'a>(line: &'a [u8], base: usize) -> Result<Line<'a>, Fault>
     requires fits { base + length line.now < 2 ^ 64 }
     ensures { Reads base line.now (reading result) }
 {
-    match content(line, base) {
-        Ok(l) => Ok(l),
-        Err(f) => Err(f.at_base(base)),
-    }
+    content(line, base).map_err(|f| f.at_base(base))
 }

@@ -1,208 +1,117 @@
-// Where the terms of a line end: one function for each production of a term.
-ghost use Rattle.std.specs.Prelude.{◌≡◌, ℕ, ◌+◌, ◌-◌, ◌<◌, ◌≤◌, Bool, length, MatchResult, ◌≢◌, slice_index};
-ghost use Rattle.grammar.specs.Regular.{inside, Is};
+// Where the terms of a line end: one method for each production of a term.
+ghost use Rattle.std.specs.Prelude.{◌≡◌, ◌≤◌, length, MatchResult};
+ghost use Rattle.grammar.specs.Regular.{Is};
 ghost use Rattle.grammar.specs.Productions.{part, IRIREF, BLANK_NODE_LABEL, STRING_LITERAL_QUOTE, LANGTAG, ECHAR, subtag, suffix, literal, datatype};
-ghost use Rattle.grammar.specs.Scanner.{Next, dot, Role, follows, State, iri, before, under, string, quoted, at, caret, Sort, in_term, Stands, Stuck, StuckEscape, Halts, Ended, Tagged, piece, RunTo};
-ghost use Rattle.ntriples.specs.Answers.{number};
+ghost use Rattle.grammar.specs.Scanner.{Next, dot, Role, follows, State, iri, before, under, string, quoted, at, caret, Stands, Ended, Tagged, piece};
 
-use crate::fault::{Fault, FaultKind};
-use grammar::class::{
-    Alnums, Class, EscapeLetters, IriChars, LabelChars, Letters, StringChars, UcharLetters,
-};
+use crate::cursor::Cursor;
+use crate::fault::Fault;
+use grammar::class::{Alnums, Class, EscapeLetters, IriChars, LabelChars, Letters, StringChars};
 
-// Past the bytes of a class that stand at `from`.
-pub(crate) fn run_end<C: Class>(line: &[u8], from: usize) -> usize
-    requires within { from ≤ length line.now }
-    ensures { RunTo C.ranges line.now from result }
-{
-    let mut pos = from;
-    while pos < line.len() && C::contains(line[pos]) {
-        pos += 1;
-    }
-    pos
-}
+impl<'a> Cursor<'a> {
+    ghost use Rattle.ntriples.specs.Cursors.{NextIs, Finds, Enters, ScansTo};
 
-// The fault of a line that cannot go on at `pos`.
-pub(crate) fn stuck(line: &[u8], pos: usize) -> Fault
-    requires within { pos ≤ length line.now }
-    ensures place { result.offset ≡ pos }
-    ensures halts { (f : Sort → Bool) (s : State) → Stuck f s line.now pos → Halts f s line.now result.offset (number result.kind) }
-{
-    if pos >= line.len() {
-        return Fault {
-            kind: FaultKind::Unexpected,
-            offset: pos,
-        };
+    // IRIREF, whose `<` is here.
+    pub fn iri(self) -> Result<Cursor<'a>, Fault>
+        requires here { NextIs self 60 }
+        ensures found { Finds (IRIREF part) self.entry result }
+        ensures goes { (s : State) (n : Next) → Enters s self.entry (iri n) → ScansTo s self.entry (λ e. Stands s self.entry.line.now e (before n)) result }
+    {
+        let end = self.advance().past::<IriChars>();
+        match end.peek() {
+            Some(b'\\') => Err(end.advance().stuck_escape()),
+            _ => end.expect(b'>'),
+        }
     }
-    if line[pos] > 127 {
-        return Fault {
-            kind: FaultKind::HighByte,
-            offset: pos,
-        };
-    }
-    Fault {
-        kind: FaultKind::Unexpected,
-        offset: pos,
-    }
-}
 
-// The same right after a backslash.
-pub(crate) fn stuck_escape(line: &[u8], pos: usize) -> Fault
-    requires within { pos ≤ length line.now }
-    ensures place { result.offset ≡ pos }
-    ensures halts { (s : State) → StuckEscape s line.now pos → Halts in_term s line.now result.offset (number result.kind) }
-{
-    if pos >= line.len() {
-        return stuck(line, pos);
+    // BLANK_NODE_LABEL, whose `_` is here.
+    pub fn label(self) -> Result<Cursor<'a>, Fault>
+        requires here { NextIs self 95 }
+        ensures found { Finds BLANK_NODE_LABEL self.entry result }
+        ensures goes { (s : State) (r : Role) → Enters s self.entry (under r) → ScansTo s self.entry (λ e. Ended s self.entry.line.now e (follows r)) result }
+    {
+        self.advance().expect(b':')?.past_some::<LabelChars>()
     }
-    if UcharLetters::contains(line[pos]) {
-        return Fault {
-            kind: FaultKind::UnicodeEscape,
-            offset: pos,
-        };
-    }
-    stuck(line, pos)
-}
 
-// Past the byte `b`, which has to stand at `pos`.
-pub(crate) fn expect(line: &[u8], pos: usize, b: u8) -> Result<usize, Fault>
-    requires within { pos ≤ length line.now }
-    ensures { MatchResult result (λ e. (e ≡ pos + 1) × (pos < length line.now) × (slice_index line.now pos ≡ b)) (λ f. (f.offset ≤ length line.now) × ((q : Sort → Bool) (s : State) → ((pos < length line.now → slice_index line.now pos ≢ b) → Stuck q s line.now pos) → Halts q s line.now f.offset (number f.kind))) }
-{
-    if pos >= line.len() {
-        return Err(stuck(line, pos));
+    // ECHAR, whose backslash is here.
+    fn escape(self) -> Result<Cursor<'a>, Fault>
+        requires here { NextIs self 92 }
+        ensures found { Finds ECHAR self.entry result }
+        ensures goes { (s : State) → Stands s self.entry.line.now self.entry.pos string → ScansTo s self.entry (λ e. Stands s self.entry.line.now e string) result }
+    {
+        let letter = self.advance();
+        match letter.peek() {
+            Some(b) if EscapeLetters::contains(b) => Ok(letter.advance()),
+            _ => Err(letter.stuck_escape()),
+        }
     }
-    if line[pos] != b {
-        return Err(stuck(line, pos));
-    }
-    Ok(pos + 1)
-}
 
-// IRIREF, whose `<` is at `from`.
-pub(crate) fn iri_end(line: &[u8], from: usize) -> Result<usize, Fault>
-    requires here { (from < length line.now) × (slice_index line.now from ≡ 60) }
-    ensures found { MatchResult result (λ e. (from < e) × (e ≤ length line.now) × Is (IRIREF part) (piece line.now from e)) (λ f. f.offset ≤ length line.now) }
-    ensures goes { (s : State) (n : Next) → Stands s line.now (from + 1) (iri n) → MatchResult result (λ e. Stands s line.now e (before n)) (λ f. Halts in_term s line.now f.offset (number f.kind)) }
-{
-    let end = run_end::<IriChars>(line, from + 1);
-    if end >= line.len() {
-        return Err(stuck(line, end));
+    // STRING_LITERAL_QUOTE, whose first quote is here.
+    fn string(self) -> Result<Cursor<'a>, Fault>
+        requires here { NextIs self 34 }
+        ensures found { Finds (STRING_LITERAL_QUOTE part) self.entry result }
+        ensures goes { (s : State) → Enters s self.entry string → ScansTo s self.entry (λ e. Stands s self.entry.line.now e quoted) result }
+    {
+        let mut end = self.advance().past::<StringChars>();
+        while let Some(b'\\') = end.peek() {
+            end = end.escape()?.past::<StringChars>();
+        }
+        end.expect(b'"')
     }
-    if line[end] == b'\\' {
-        return Err(stuck_escape(line, end + 1));
-    }
-    expect(line, end, b'>')
-}
 
-// BLANK_NODE_LABEL, whose `_` is at `from`.
-pub(crate) fn label_end(line: &[u8], from: usize) -> Result<usize, Fault>
-    requires here { (from < length line.now) × (slice_index line.now from ≡ 95) }
-    ensures found { MatchResult result (λ e. (from < e) × (e ≤ length line.now) × Is BLANK_NODE_LABEL (piece line.now from e)) (λ f. f.offset ≤ length line.now) }
-    ensures goes { (s : State) (n : Role) → Stands s line.now (from + 1) (under n) → MatchResult result (λ e. Ended s line.now e (follows n)) (λ f. Halts in_term s line.now f.offset (number f.kind)) }
-{
-    let first = expect(line, from + 1, b':')?;
-    let end = run_end::<LabelChars>(line, first);
-    if end == first {
-        return Err(stuck(line, end));
+    // A hyphen of a language tag, which is here, and the letters and digits after it.
+    fn subtag(self) -> Result<Cursor<'a>, Fault>
+        requires here { NextIs self 45 }
+        ensures found { Finds subtag self.entry result }
+        ensures goes { (s : State) → Tagged s self.entry.line.now self.entry.pos → ScansTo s self.entry (λ e. Tagged s self.entry.line.now e) result }
+    {
+        self.advance().past_some::<Alnums>()
     }
-    Ok(end)
-}
 
-// ECHAR, whose backslash is at `from`.
-fn escape_end(line: &[u8], from: usize) -> Result<usize, Fault>
-    requires here { (from < length line.now) × (slice_index line.now from ≡ 92) }
-    ensures found { MatchResult result (λ e. (from < e) × (e ≤ length line.now) × Is ECHAR (piece line.now from e)) (λ f. f.offset ≤ length line.now) }
-    ensures goes { (s : State) → Stands s line.now from string → MatchResult result (λ e. Stands s line.now e string) (λ f. Halts in_term s line.now f.offset (number f.kind)) }
-{
-    let letter = from + 1;
-    if letter >= line.len() {
-        return Err(stuck_escape(line, letter));
+    // LANGTAG, whose `@` is here.
+    fn tag(self) -> Result<Cursor<'a>, Fault>
+        requires here { NextIs self 64 }
+        ensures found { Finds LANGTAG self.entry result }
+        ensures goes { (s : State) → Enters s self.entry at → ScansTo s self.entry (λ e. Ended s self.entry.line.now e dot) result }
+    {
+        let mut end = self.advance().past_some::<Letters>()?;
+        while let Some(b'-') = end.peek() {
+            end = end.subtag()?;
+        }
+        Ok(end)
     }
-    if !EscapeLetters::contains(line[letter]) {
-        return Err(stuck_escape(line, letter));
-    }
-    Ok(letter + 1)
-}
 
-// STRING_LITERAL_QUOTE, whose first quote is at `from`.
-fn string_end(line: &[u8], from: usize) -> Result<usize, Fault>
-    requires here { (from < length line.now) × (slice_index line.now from ≡ 34) }
-    ensures found { MatchResult result (λ e. (from < e) × (e ≤ length line.now) × Is (STRING_LITERAL_QUOTE part) (piece line.now from e)) (λ f. f.offset ≤ length line.now) }
-    ensures goes { (s : State) → Stands s line.now (from + 1) string → MatchResult result (λ e. Stands s line.now e quoted) (λ f. Halts in_term s line.now f.offset (number f.kind)) }
-{
-    let mut pos = run_end::<StringChars>(line, from + 1);
-    while pos < line.len() && line[pos] == b'\\' {
-        let next = escape_end(line, pos)?;
-        pos = run_end::<StringChars>(line, next);
+    // `^^` and the datatype of a literal, whose first `^` is here.
+    fn datatype(self) -> Result<Cursor<'a>, Fault>
+        requires here { NextIs self 94 }
+        ensures found { Finds (datatype part) self.entry result }
+        ensures goes { (s : State) → Enters s self.entry caret → ScansTo s self.entry (λ e. Ended s self.entry.line.now e dot) result }
+    {
+        let bracket = self.advance().expect(b'^')?;
+        match bracket.peek() {
+            Some(b'<') => bracket.iri(),
+            _ => Err(bracket.stuck()),
+        }
     }
-    expect(line, pos, b'"')
-}
 
-// A hyphen of a language tag, at `from`, and the letters and digits after it.
-fn subtag_end(line: &[u8], from: usize) -> Result<usize, Fault>
-    requires here { (from < length line.now) × (slice_index line.now from ≡ 45) }
-    ensures found { MatchResult result (λ e. (from < e) × (e ≤ length line.now) × Is subtag (piece line.now from e)) (λ f. f.offset ≤ length line.now) }
-    ensures goes { (s : State) → Tagged s line.now from → MatchResult result (λ e. Tagged s line.now e) (λ f. Halts in_term s line.now f.offset (number f.kind)) }
-{
-    let end = run_end::<Alnums>(line, from + 1);
-    if end == from + 1 {
-        return Err(stuck(line, end));
+    // What may follow the string of a literal.
+    fn suffix(self) -> Result<Cursor<'a>, Fault>
+        ensures found { MatchResult result (λ e. (e.line ≡ self.entry.line) × (self.entry.pos ≤ e.pos) × Is (suffix part) (piece self.entry.line.now self.entry.pos e.pos)) (λ f. f.offset ≤ length self.entry.line.now) }
+        ensures goes { (s : State) → Stands s self.entry.line.now self.entry.pos quoted → ScansTo s self.entry (λ e. Ended s self.entry.line.now e dot) result }
+    {
+        match self.peek() {
+            Some(b'@') => self.tag(),
+            Some(b'^') => self.datatype(),
+            _ => Ok(self),
+        }
     }
-    Ok(end)
-}
 
-// LANGTAG, whose `@` is at `from`.
-fn tag_end(line: &[u8], from: usize) -> Result<usize, Fault>
-    requires here { (from < length line.now) × (slice_index line.now from ≡ 64) }
-    ensures found { MatchResult result (λ e. (from < e) × (e ≤ length line.now) × Is LANGTAG (piece line.now from e)) (λ f. f.offset ≤ length line.now) }
-    ensures goes { (s : State) → Stands s line.now (from + 1) at → MatchResult result (λ e. Ended s line.now e dot) (λ f. Halts in_term s line.now f.offset (number f.kind)) }
-{
-    let letters = run_end::<Letters>(line, from + 1);
-    if letters == from + 1 {
-        return Err(stuck(line, letters));
+    // A literal, whose first quote is here.
+    pub fn literal(self) -> Result<Cursor<'a>, Fault>
+        requires here { NextIs self 34 }
+        ensures found { Finds (literal part) self.entry result }
+        ensures goes { (s : State) → Enters s self.entry string → ScansTo s self.entry (λ e. Ended s self.entry.line.now e dot) result }
+    {
+        self.string()?.suffix()
     }
-    let mut pos = letters;
-    while pos < line.len() && line[pos] == b'-' {
-        pos = subtag_end(line, pos)?;
-    }
-    Ok(pos)
-}
-
-// `^^` and the datatype of a literal, whose first `^` is at `from`.
-fn datatype_end(line: &[u8], from: usize) -> Result<usize, Fault>
-    requires here { (from < length line.now) × (slice_index line.now from ≡ 94) }
-    ensures found { MatchResult result (λ e. (from < e) × (e ≤ length line.now) × Is (datatype part) (piece line.now from e)) (λ f. f.offset ≤ length line.now) }
-    ensures goes { (s : State) → Stands s line.now (from + 1) caret → MatchResult result (λ e. Ended s line.now e dot) (λ f. Halts in_term s line.now f.offset (number f.kind)) }
-{
-    let bracket = expect(line, from + 1, b'^')?;
-    let _ = expect(line, bracket, b'<')?;
-    iri_end(line, bracket)
-}
-
-// What may follow the string of a literal, at `from`.
-fn suffix_end(line: &[u8], from: usize) -> Result<usize, Fault>
-    requires within { from ≤ length line.now }
-    ensures found { MatchResult result (λ e. (from ≤ e) × (e ≤ length line.now) × Is (suffix part) (piece line.now from e)) (λ f. f.offset ≤ length line.now) }
-    ensures goes { (s : State) → Stands s line.now from quoted → MatchResult result (λ e. Ended s line.now e dot) (λ f. Halts in_term s line.now f.offset (number f.kind)) }
-{
-    if from >= line.len() {
-        return Ok(from);
-    }
-    if line[from] == b'@' {
-        return tag_end(line, from);
-    }
-    if line[from] == b'^' {
-        return datatype_end(line, from);
-    }
-    Ok(from)
-}
-
-// A literal, whose first quote is at `from`.
-pub(crate) fn literal_end(line: &[u8], from: usize) -> Result<usize, Fault>
-    requires here { (from < length line.now) × (slice_index line.now from ≡ 34) }
-    ensures found { MatchResult result (λ e. (from < e) × (e ≤ length line.now) × Is (literal part) (piece line.now from e)) (λ f. f.offset ≤ length line.now) }
-    ensures goes { (s : State) → Stands s line.now (from + 1) string → MatchResult result (λ e. Ended s line.now e dot) (λ f. Halts in_term s line.now f.offset (number f.kind)) }
-{
-    let quote = string_end(line, from)?;
-    suffix_end(line, quote)
 }
