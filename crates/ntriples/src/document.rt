@@ -37,10 +37,9 @@ fn line_end(text: &[u8], from: usize) -> usize
 
 // Where the line after the one that ends at `end` begins.
 fn next_start(text: &[u8], end: usize) -> usize
-    requires within { end ≤ length text.now }
     ensures { (end < length text.now → result ≡ end + 1) × (length text.now ≤ end → result ≡ end) }
 {
-    (end + 1).min(text.len())
+    if end < text.len() { end + 1 } else { end }
 }
 
 // The line from `from` up to `end`.
