@@ -3,7 +3,7 @@ use Rattle.std.proofs.Common.{◌≡◌, ℕ, ◌+◌, ◌<◌, ◌≤◌, true,
 use Rattle.grammar.specs.Regular.{inside, one, ◌then◌, ◌or◌, many, Spells, Is}
 use Rattle.grammar.specs.Productions.{part, byte, letter, alnum, label_char, iri_char, string_char, escape_letter, UCHAR, ECHAR, IRIREF, BLANK_NODE_LABEL, STRING_LITERAL_QUOTE, subtag, LANGTAG, suffix, datatype, literal, comment, comment_char}
 use Rattle.grammar.specs.Scanner.{piece, RunTo}
-use Rattle.grammar.proofs.Slices.{piece-none, byte_then, then_byte, class_at, join, none_yet, one_more, run_spells, run-units, run_rest, run_some}
+use Rattle.grammar.proofs.Slices.{byte_then, then_byte, class_at, join, none_yet, one_more, run_spells, run-units, run_rest, run_some}
 
 -- the bytes and escapes of a string so far
 abbrev pub units : Rattle.grammar.specs.Regular.Expr
@@ -46,9 +46,6 @@ module _ (bs : List ℕ) (a : ℕ) (l : a < length bs) where
   build_comment e q r = record { spelled = byte_then bs 35 (many (one comment_char)) a e l q r.forward (run_spells bs comment_char (a + 1) e r) }
 
 module _ (bs : List ℕ) (a : ℕ) where
-  pub no_suffix : Is (suffix part) (piece bs a a)
-  no_suffix = record { spelled = inl (piece-none bs a) }
-
   pub tag-suffix : (e : ℕ) → Is LANGTAG (piece bs a e) → Is (suffix part) (piece bs a e)
   tag-suffix e h = record { spelled = inr (inl h.spelled) }
 

@@ -1,7 +1,6 @@
 -- The line of a document at an offset, from where it ends. Assumes nothing.
-use Rattle.std.proofs.Common.{◌≡◌, ℕ, zero, suc, ◌+◌, ◌-◌, ◌<◌, ◌≤◌, Bool, true, false, leb, List, [], ◌∷◌, ◌++◌, length, get_or, take, drop, MatchBool, refl, ap, ◌∙◌, arith, take-append-drop}
+use Rattle.std.proofs.Common.{◌≡◌, ℕ, zero, suc, ◌+◌, ◌-◌, ◌<◌, ◌≤◌, List, [], ◌∷◌, ◌++◌, length, get_or, take, drop, refl, ap, ◌∙◌, arith, take-append-drop}
 use Rattle.std.proofs.lemmas.List.Edits.{length-between, split_between}
-use Rattle.std.proofs.lemmas.Bool.{leb-true, leb-false}
 use Rattle.std.proofs.lemmas.List.{drop_more, drop_all, append_cancel_left}
 use Rattle.grammar.specs.Readings.{Reading, Reads}
 use Rattle.grammar.specs.Documents.{EndsLine, Unbroken, Ending, by, at_end, LineAt}
@@ -20,11 +19,6 @@ module _ (text : List ℕ) where
 
   drop_some : (a : ℕ) → a < length text → drop a text ≡ [] → ⊥
   drop_some a h e = cc (drop_more text a 0 h)
-
-  -- where a document has ended, it has no line
-  pub over_or_not : (from : ℕ) (b : Bool) → leb (length text) from ≡ b → MatchBool b ((length text ≤ from) × ((r : Reading) (n : ℕ) → LineAt text from r n → ⊥)) (from < length text)
-  over_or_not from true e = let h = leb-true (length text) from e in (h, λ r n l. l.cut.some (drop_all from text h))
-  over_or_not from false e = leb-false (length text) from e
 
   module _ (from e : ℕ) (r : Reading) (some : from < length text) (forward : from ≤ e) (h : (k : ℕ) → from ≤ k → k < e → EndsLine (get_or text k 0) → ⊥) (reads : Reads from (piece text from e) r) where
     line_to : (ending : List ℕ) (n : ℕ) → e ≤ length text → n ≡ e + length ending → drop e text ≡ ending ++ drop n text → Ending (drop n text) ending → LineAt text from r n

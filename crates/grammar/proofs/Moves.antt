@@ -3,7 +3,7 @@ use Rattle.std.proofs.Common.{◌≡◌, ℕ, ◌+◌, ◌<◌, true, false, Lis
 use Rattle.std.proofs.lemmas.Bool.Decides.{nat_tests}
 use Rattle.grammar.specs.Regular.{inside}
 use Rattle.grammar.specs.Productions.{blank, letter, alnum, label_char, iri_char, string_char, escape_letter, comment_char}
-use Rattle.grammar.specs.Scanner.{Next, verb, thing, dot, Role, follows, State, start, iri, slash, colon, label, before, string, escape, quoted, at, tag, hyphen, sub, carets, ended, remark, dead, move, step, between, sort, plain, in_line, Stands, in_iri, in_string, Stuck, StuckEscape, Ended, Tagged, RunTo}
+use Rattle.grammar.specs.Scanner.{Next, verb, thing, dot, Role, follows, State, start, iri, slash, colon, label, before, string, escape, at, tag, hyphen, sub, carets, ended, remark, dead, move, step, between, sort, plain, in_line, Stands, in_iri, in_string, Stuck, StuckEscape, Ended, Tagged, RunTo}
 use Rattle.grammar.proofs.Steps.{class_step, onward, by_byte, no_step, same_step, run_enters, loops_label, loops_tag, loops_sub}
 
 -- a test that fails
@@ -19,9 +19,6 @@ no_colon r c e = grind (arith, nat_tests)
 
 pub no_string : (c : ℕ) → inside string_char c ≡ false → Not c 34 → Not c 92 → move string c ≡ dead
 no_string c e u v = grind (arith, nat_tests)
-
-pub no_at : (c : ℕ) → inside letter c ≡ false → move at c ≡ dead
-no_at c e = grind (arith, nat_tests)
 
 pub no_hyphen : (c : ℕ) → inside alnum c ≡ false → move hyphen c ≡ dead
 no_hyphen c e = grind (arith, nat_tests)
@@ -72,13 +69,6 @@ module _ (s : State) (bs : List ℕ) (k : ℕ) where
 
   label-ended : (r : Role) → Stands s bs k (label r) → (k < length bs → inside label_char (get_or bs k 0) ≡ false) → Ended s bs k (follows r)
   label-ended r h e = ends_term (label r) (follows r) h refl (λ l. grind (arith, nat_tests, e l))
-
-  pub quoted-ended : Stands s bs k quoted → (k < length bs → Not (get_or bs k 0) 64) → (k < length bs → Not (get_or bs k 0) 94) → Ended s bs k dot
-  quoted-ended h u v = ends_term quoted dot h refl (λ l. grind (arith, nat_tests, u l, v l))
-
-  pub tag-ended : Tagged s bs k → (k < length bs → Not (get_or bs k 0) 45) → Ended s bs k dot
-  tag-ended (inl (h, e)) u = ends_term tag dot h refl (λ l. grind (arith, nat_tests, e l, u l))
-  tag-ended (inr (h, e)) u = ends_term sub dot h refl (λ l. grind (arith, nat_tests, e l, u l))
 
   pub tag-hyphen : Tagged s bs k → k < length bs → get_or bs k 0 ≡ 45 → Stands s bs (k + 1) hyphen
   tag-hyphen (inl (h, e)) l q = by_byte s bs k 45 tag hyphen h l q refl
