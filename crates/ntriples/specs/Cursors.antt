@@ -1,6 +1,6 @@
 -- An inner device, for the contracts of the functions that scan a line: facts about the places of a line. Assumes nothing.
-use Rattle.std.specs.Prelude.{◌≡◌, ℕ, ◌+◌, ◌<◌, ◌≤◌, Bool, length, slice_index, Result, MatchResult}
-use Rattle.grammar.specs.Regular.{Expr, Is}
+use Rattle.std.specs.Prelude.{◌≡◌, ℕ, ◌+◌, ◌<◌, ◌≤◌, Bool, List, [], ◌∷◌, length, slice_index, Result, MatchResult}
+use Rattle.grammar.specs.Regular.{Range, to, Expr, Is}
 use Rattle.grammar.specs.Productions.{blank}
 use Rattle.grammar.specs.Readings.{Kind, an_iri, a_label, a_literal, Fits}
 use Rattle.grammar.specs.Scanner.{Next, dot, Role, follows, State, iri, under, string, Sort, in_term, Stands, Stuck, Halts, piece, RunTo}
@@ -8,6 +8,10 @@ use Rattle.ntriples.specs.declared.cursor.Cursor.{Cursor}
 use Rattle.ntriples.specs.declared.fault.Fault.{Fault}
 use Rattle.ntriples.specs.declared.form.Found.{Found}
 use Rattle.ntriples.specs.Answers.{number, bytes_of, term_of}
+
+-- the bytes of a line: all but LF and CR
+abbrev pub line_byte : List Range
+line_byte = to 0 9 ∷ to 11 12 ∷ to 14 255 ∷ []
 
 -- the byte b stands at the place
 abbrev pub NextIs : Cursor → ℕ → Type 0

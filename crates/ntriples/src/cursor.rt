@@ -1,5 +1,5 @@
 // A place in a line, from which the line is read on.
-ghost use Rattle.std.specs.Prelude.{◌≡◌, ◌+◌, ◌<◌, ◌≤◌, Bool, false, length, slice_index, position, not, MatchOption, MatchResult, ◌≢◌};
+ghost use Rattle.std.specs.Prelude.{◌≡◌, ◌+◌, ◌<◌, ◌≤◌, Bool, false, length, slice_index, MatchOption, MatchResult, ◌≢◌};
 ghost use Rattle.grammar.specs.Regular.{inside};
 ghost use Rattle.grammar.specs.Scanner.{State, Sort, in_term, Stuck, StuckEscape, piece, RunTo};
 
@@ -58,13 +58,9 @@ impl<'a> Cursor<'a> {
         ensures same { result.line ≡ self.entry.line }
         ensures run { RunTo C.ranges self.entry.line.now self.entry.pos result.pos }
     {
-        let pos = match first_outside::<C>(&self.line[self.pos..]) {
-            Some(n) => self.pos + n,
-            None => self.line.len(),
-        };
         Cursor {
             line: self.line,
-            pos,
+            pos: self.pos + run_len::<C>(&self.line[self.pos..]),
         }
     }
 
@@ -119,9 +115,14 @@ impl<'a> Cursor<'a> {
     }
 }
 
-// The first byte that is not of the class.
-fn first_outside<C: Class>(text: &[u8]) -> Option<usize>
-    ensures { result ≡ position (λ b. not (inside C.ranges b)) text.now }
+// How many bytes of the class stand at the front of the text.
+pub(crate) fn run_len<C: Class>(text: &[u8]) -> usize
+    ensures { RunTo C.ranges text.now 0 result }
 {
-    text.iter().position(|b| !C::contains(*b))
+    for (i, b) in text.iter().enumerate() {
+        if !C::contains(*b) {
+            return i;
+        }
+    }
+    text.len()
 }
