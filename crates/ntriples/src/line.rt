@@ -18,7 +18,7 @@ impl<'a> Cursor<'a> {
     // The comment whose `#` is here, up to the line's end.
     fn comment(self) -> Result<(), Fault>
         requires here { NextIs self 35 }
-        ensures found { MatchResult result (λ _. Is comment (piece self.entry.line.now self.entry.pos (length self.entry.line.now))) (λ f. f.offset ≤ length self.entry.line.now) }
+        ensures found { let line = self.entry.line.now in MatchResult result (λ _. Is comment (piece line self.entry.pos (length line))) (λ f. f.offset ≤ length line) }
         ensures goes { (s : State) → Enters s self.entry remark → IfErr result (λ f. HaltsBy in_line s self.entry f) }
     {
         let end = self.advance().past::<CommentChars>();
@@ -30,7 +30,7 @@ impl<'a> Cursor<'a> {
 
     // What may follow the dot, up to the line's end.
     fn rest(self) -> Result<(), Fault>
-        ensures found { MatchResult result (λ _. Is rest (piece self.entry.line.now self.entry.pos (length self.entry.line.now))) (λ f. f.offset ≤ length self.entry.line.now) }
+        ensures found { let line = self.entry.line.now in MatchResult result (λ _. Is rest (piece line self.entry.pos (length line))) (λ f. f.offset ≤ length line) }
         ensures goes { (s : State) → Stands s self.entry.line.now self.entry.pos ended → IfErr result (λ f. HaltsBy in_line s self.entry f) }
     {
         let end = self.past::<Blanks>();
