@@ -3,7 +3,7 @@ use Rattle.std.specs.Prelude.{◌≡◌, ℕ, ◌+◌, ◌<◌, ◌≤◌, Bool,
 use Rattle.grammar.specs.Regular.{Range, to, Expr, Is}
 use Rattle.grammar.specs.Productions.{blank}
 use Rattle.grammar.specs.Readings.{Kind, an_iri, a_label, a_literal, Fits}
-use Rattle.grammar.specs.Scanner.{Next, dot, Role, follows, State, iri, under, string, Sort, in_term, Stands, Stuck, Halts, piece, RunTo}
+use Rattle.grammar.specs.Scanner.{Next, dot, Role, follows, State, iri, under, string, Sort, in_term, in_line, Stands, Stuck, Halts, Ended, piece, RunTo}
 use Rattle.ntriples.specs.declared.cursor.Cursor.{Cursor}
 use Rattle.ntriples.specs.declared.fault.Fault.{Fault}
 use Rattle.ntriples.specs.declared.form.Found.{Found}
@@ -42,6 +42,10 @@ HaltsBy q s a f = Halts q s a.line.now f.offset (number f.kind)
 -- the place at whose offset p holds, or a fault by which the scanner halts inside a term
 abbrev pub ScansTo : State → Cursor → (ℕ → Type 0) → Result Cursor Fault → Type 0
 ScansTo s a p r = MatchResult r (λ b. p b.pos) (λ f. HaltsBy in_term s a f)
+
+-- the term after which n is to come, or a fault by which the scanner halts in the line
+abbrev pub ScansTerm : State → Cursor → Next → Result Found Fault → Type 0
+ScansTerm s a n r = MatchResult r (λ x. Ended s a.line.now x.end.pos n) (λ f. HaltsBy in_line s a f)
 
 -- the scanner is in the state t past the byte at the place
 abbrev pub Enters : State → Cursor → State → Type 0
