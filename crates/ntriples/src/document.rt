@@ -39,12 +39,11 @@ fn line_end(text: &[u8], from: usize) -> usize
     from + run_len::<LineBytes>(&text[from..])
 }
 
-// Where the line after the one that ends at `end` begins.
+// Where the line after the one that ends at `end` begins. With `min` it would have to require that `end` lies in the text.
 fn next_start(text: &[u8], end: usize) -> usize
-    requires within { end ≤ length text.now }
     ensures { (end < length text.now → result ≡ end + 1) × (length text.now ≤ end → result ≡ end) }
 {
-    (end + 1).min(text.len())
+    if end < text.len() { end + 1 } else { end }
 }
 
 // The line from `from` up to `end`.
