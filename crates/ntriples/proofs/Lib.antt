@@ -1,2 +1,2 @@
-pub mod First
+pub mod Tails
 pub mod TermKinds

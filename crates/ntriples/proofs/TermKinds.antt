@@ -1,16 +1,18 @@
--- What the kinds of terms have in common: whether a text is a term of a kind. Assumes nothing.
+-- What the kinds of terms have in common. Assumes nothing.
 use Rattle.std.proofs.Common.{◌≡◌, ℕ, ◌<◌, ◌≤◌, Bool, true, false, List, [], ◌∷◌, length, get_or, nat_eq, Result, MatchResult, Ok, Err, refl, ◌∙◌, sym, inl, inr}
 use Rattle.std.proofs.lemmas.Bool.{both_ways}
+use Rattle.std.proofs.lemmas.Result.{MatchResult-weaker}
 use Rattle.grammar.specs.Regular.{to, Spells, Is}
 use Rattle.grammar.specs.Productions.{part, object}
 use Rattle.grammar.specs.Readings.{Kind, an_iri, a_label, a_literal, production}
-use Rattle.grammar.specs.Scanner.{thing, dot, last, State, iri, under, before, string, in_term, Stands, Halts, Ended, piece}
+use Rattle.grammar.specs.Scanner.{thing, dot, last, State, iri, under, before, string, Next, in_term, in_line, Stands, Halts, Ended, piece}
 use Rattle.grammar.proofs.Derivatives.{nullable}
 use Rattle.grammar.proofs.LL1.{firsts}
-use Rattle.grammar.proofs.Steps.{by_byte}
+use Rattle.grammar.proofs.Steps.{by_byte, wider}
 use Rattle.grammar.proofs.Recognise.{is_all, not_all, not_stuck, first_is}
 use Rattle.ntriples.specs.declared.cursor.Cursor.{Cursor}
 use Rattle.ntriples.specs.declared.fault.Fault.{Fault}
+use Rattle.ntriples.specs.declared.form.Found.{Found}
 use Rattle.ntriples.specs.Answers.{number}
 use Rattle.ntriples.specs.Cursors.{first_byte, Opens}
 
@@ -63,3 +65,8 @@ module _ (k : Kind) (bs : List ℕ) (b : Bool) where
       → MatchResult r (λ e. b ≡ nat_eq e.pos (length bs)) (λ _. b ≡ false) → b ≡ false → Is (production k) bs → ⊥
   fills-no (Ok e) h g r t i = not_all (production k) (as_object k) bs e.pos h.0 h.1 g (sym r ∙ t) i
   fills-no (Err f) h g r t i = not_stuck (production k) (as_object k) bs f.offset (number f.kind) g i
+
+-- what is refused inside a term of a line is refused in the line
+pub term-in_line : (s : State) (bs : List ℕ) (n : Next) (r : Result Found Fault) → MatchResult r (λ x. Ended s bs x.end.pos n) (λ f. Halts in_term s bs f.offset (number f.kind))
+    → MatchResult r (λ x. Ended s bs x.end.pos n) (λ f. Halts in_line s bs f.offset (number f.kind))
+term-in_line s bs n r h = MatchResult-weaker r h (λ x k. k) (λ f k. wider s bs f.offset (number f.kind) k)

@@ -1,13 +1,17 @@
 -- An inner device, for the contracts of the functions that scan a line: facts about the places of a line. Assumes nothing.
-use Rattle.std.specs.Prelude.{◌≡◌, ℕ, ◌+◌, ◌<◌, ◌≤◌, Bool, length, slice_index, Result, MatchResult}
-use Rattle.grammar.specs.Regular.{Expr, Is}
+use Rattle.std.specs.Prelude.{◌≡◌, ℕ, ◌+◌, ◌<◌, ◌≤◌, Bool, List, [], ◌∷◌, length, slice_index, Result, MatchResult}
+use Rattle.grammar.specs.Regular.{Range, to, Expr, Is}
 use Rattle.grammar.specs.Productions.{blank}
 use Rattle.grammar.specs.Readings.{Kind, an_iri, a_label, a_literal, Fits}
-use Rattle.grammar.specs.Scanner.{Next, dot, Role, follows, State, iri, under, string, Sort, in_term, Stands, Stuck, Halts, piece, RunTo}
+use Rattle.grammar.specs.Scanner.{Next, dot, Role, follows, State, iri, under, string, Sort, in_term, in_line, Stands, Stuck, Halts, Ended, piece, RunTo}
 use Rattle.ntriples.specs.declared.cursor.Cursor.{Cursor}
 use Rattle.ntriples.specs.declared.fault.Fault.{Fault}
 use Rattle.ntriples.specs.declared.form.Found.{Found}
 use Rattle.ntriples.specs.Answers.{number, bytes_of, term_of}
+
+-- the bytes of a line: all but LF and CR
+abbrev pub line_byte : List Range
+line_byte = to 0 9 ∷ to 11 12 ∷ to 14 255 ∷ []
 
 -- the byte b stands at the place
 abbrev pub NextIs : Cursor → ℕ → Type 0
@@ -38,6 +42,10 @@ HaltsBy q s a f = Halts q s a.line.now f.offset (number f.kind)
 -- the place at whose offset p holds, or a fault by which the scanner halts inside a term
 abbrev pub ScansTo : State → Cursor → (ℕ → Type 0) → Result Cursor Fault → Type 0
 ScansTo s a p r = MatchResult r (λ b. p b.pos) (λ f. HaltsBy in_term s a f)
+
+-- the term after which n is to come, or a fault by which the scanner halts in the line
+abbrev pub ScansTerm : State → Cursor → Next → Result Found Fault → Type 0
+ScansTerm s a n r = MatchResult r (λ x. Ended s a.line.now x.end.pos n) (λ f. HaltsBy in_line s a f)
 
 -- the scanner is in the state t past the byte at the place
 abbrev pub Enters : State → Cursor → State → Type 0

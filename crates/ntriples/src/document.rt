@@ -1,12 +1,15 @@
 // The lines of a document, one after another.
-ghost use Rattle.std.specs.Prelude.{◌≡◌, ℕ, ◌+◌, ◌<◌, ◌≤◌, ◌==◌, ◌||◌, length, position, IsSomeAnd, MatchOption, slice_index};
+ghost use Rattle.std.specs.Prelude.{◌≡◌, ℕ, ◌+◌, ◌<◌, ◌≤◌, length, IsSomeAnd, MatchOption, slice_index};
 ghost use Rattle.grammar.specs.Readings.{Reading};
 ghost use Rattle.grammar.specs.Documents.{EndsLine, LineAt};
 ghost use Rattle.ntriples.specs.Answers.{reading};
+ghost use Rattle.ntriples.specs.Cursors.{line_byte};
 
+use crate::cursor::run_len;
 use crate::fault::Fault;
 use crate::line::read;
 use crate::token::Line;
+use grammar::class::Class;
 
 // What a line is read as, and the offset where the next line begins.
 #[derive(Clone, Copy)]
@@ -15,11 +18,15 @@ pub struct LineRead<'a> {
     pub next: usize,
 }
 
-// The first LF or CR.
-fn line_break(text: &[u8]) -> Option<usize>
-    ensures { result ≡ position (λ b. (b == 10) || (b == 13)) text.now }
-{
-    text.iter().position(|b| *b == b'\n' || *b == b'\r')
+// All bytes but LF and CR, which end a line.
+struct LineBytes;
+
+impl Class for LineBytes {
+    ghost ranges = { line_byte };
+
+    fn contains(b: u8) -> bool {
+        !matches!(b, b'\n' | b'\r')
+    }
 }
 
 // The end of the line that begins at `from`, where LF, CR or nothing more stands.
@@ -29,13 +36,10 @@ fn line_end(text: &[u8], from: usize) -> usize
     ensures unbroken { (k : ℕ) → from ≤ k → k < result → ¬ EndsLine (slice_index text.now k) }
     ensures ended { result < length text.now → EndsLine (slice_index text.now result) }
 {
-    match line_break(&text[from..]) {
-        Some(n) => from + n,
-        None => text.len(),
-    }
+    from + run_len::<LineBytes>(&text[from..])
 }
 
-// Where the line after the one that ends at `end` begins.
+// Where the line after the one that ends at `end` begins. With `min` it would have to require that `end` lies in the text.
 fn next_start(text: &[u8], end: usize) -> usize
     ensures { (end < length text.now → result ≡ end + 1) × (length text.now ≤ end → result ≡ end) }
 {

@@ -8,6 +8,7 @@ use crate::cursor::Cursor;
 use crate::fault::Fault;
 use crate::token::{Located, Token};
 
+// IRIREF, BLANK_NODE_LABEL or a literal.
 pub(crate) trait Form {
     ghost use Rattle.ntriples.specs.Answers.{kind_of, bytes_of};
     ghost use Rattle.ntriples.specs.Cursors.{NextIs, Finds, Enters, ScansTo, first_byte, Opens};
@@ -31,7 +32,6 @@ pub(crate) trait Form {
         ensures bytes { bytes_of result ≡ bytes.now };
 }
 
-// IRIREF
 pub(crate) struct Iri;
 
 impl Form for Iri {
@@ -50,7 +50,6 @@ impl Form for Iri {
     }
 }
 
-// BLANK_NODE_LABEL
 pub(crate) struct Label;
 
 impl Form for Label {
@@ -69,7 +68,6 @@ impl Form for Label {
     }
 }
 
-// A literal
 pub(crate) struct Literal;
 
 impl Form for Literal {
@@ -112,12 +110,14 @@ impl<'a> Found<'a> {
 
 impl<'a> Cursor<'a> {
     ghost use Rattle.ntriples.specs.Answers.{kind_of, bytes_of};
-    ghost use Rattle.ntriples.specs.Cursors.{NextIs, Enters, HaltsBy, first_byte, Opens};
+    ghost use Rattle.ntriples.specs.Cursors.{NextIs, Spans, Enters, HaltsBy, first_byte, Opens};
 
     // The term of the form, whose first byte is here.
     pub fn term<F: Form>(self) -> Result<Found<'a>, Fault>
         requires here { NextIs self (first_byte F.kind) }
-        ensures found { MatchResult result (λ x. (x.start ≡ self.entry) × (x.end.line ≡ self.entry.line) × (self.entry.pos < x.end.pos) × (kind_of x.token ≡ F.kind) × (bytes_of x.token ≡ piece self.entry.line.now self.entry.pos x.end.pos) × Is (production F.kind) (piece self.entry.line.now self.entry.pos x.end.pos)) (λ f. f.offset ≤ length self.entry.line.now) }
+        ensures found { let here = self.entry in MatchResult result
+            (λ x. (x.start ≡ here) × Spans (production F.kind) here x.end × (kind_of x.token ≡ F.kind) × (bytes_of x.token ≡ piece here.line.now here.pos x.end.pos))
+            (λ f. f.offset ≤ length here.line.now) }
         ensures goes { (s : State) (n : Next) (t : State) → Opens F.kind n t → Enters s self.entry t → MatchResult result (λ x. Ended s self.entry.line.now x.end.pos n) (λ f. HaltsBy in_term s self.entry f) }
     {
         let end = F::end(self)?;

@@ -13,12 +13,12 @@ use crate::token::{Line, Located, Statement};
 use grammar::class::{Blanks, CommentChars};
 
 impl<'a> Cursor<'a> {
-    ghost use Rattle.ntriples.specs.Cursors.{NextIs, FindsTerm, Enters, HaltsBy};
+    ghost use Rattle.ntriples.specs.Cursors.{NextIs, FindsTerm, ScansTerm, Enters, HaltsBy};
 
     // The comment whose `#` is here, up to the line's end.
     fn comment(self) -> Result<(), Fault>
         requires here { NextIs self 35 }
-        ensures found { MatchResult result (λ _. Is comment (piece self.entry.line.now self.entry.pos (length self.entry.line.now))) (λ f. f.offset ≤ length self.entry.line.now) }
+        ensures found { let line = self.entry.line.now in MatchResult result (λ _. Is comment (piece line self.entry.pos (length line))) (λ f. f.offset ≤ length line) }
         ensures goes { (s : State) → Enters s self.entry remark → IfErr result (λ f. HaltsBy in_line s self.entry f) }
     {
         let end = self.advance().past::<CommentChars>();
@@ -30,7 +30,7 @@ impl<'a> Cursor<'a> {
 
     // What may follow the dot, up to the line's end.
     fn rest(self) -> Result<(), Fault>
-        ensures found { MatchResult result (λ _. Is rest (piece self.entry.line.now self.entry.pos (length self.entry.line.now))) (λ f. f.offset ≤ length self.entry.line.now) }
+        ensures found { let line = self.entry.line.now in MatchResult result (λ _. Is rest (piece line self.entry.pos (length line))) (λ f. f.offset ≤ length line) }
         ensures goes { (s : State) → Stands s self.entry.line.now self.entry.pos ended → IfErr result (λ f. HaltsBy in_line s self.entry f) }
     {
         let end = self.past::<Blanks>();
@@ -46,7 +46,7 @@ impl<'a> Cursor<'a> {
         requires here { (self.pos < length self.line.now) × (inside blank (slice_index self.line.now self.pos) ≡ false) × (slice_index self.line.now self.pos ≢ 35) }
         ensures at { IfOk result (λ x. x.start.pos ≡ self.entry.pos) }
         ensures found { FindsTerm (subject part) self.entry result }
-        ensures goes { (s : State) → Stands s self.entry.line.now self.entry.pos start → MatchResult result (λ x. Ended s self.entry.line.now x.end.pos verb) (λ f. HaltsBy in_line s self.entry f) }
+        ensures goes { (s : State) → Stands s self.entry.line.now self.entry.pos start → ScansTerm s self.entry verb result }
     {
         match self.peek() {
             Some(b'<') => self.term::<Iri>(),
@@ -58,7 +58,7 @@ impl<'a> Cursor<'a> {
     // The predicate, after blanks.
     fn predicate(self) -> Result<Found<'a>, Fault>
         ensures found { FindsTerm (predicate part) self.entry result }
-        ensures goes { (s : State) → Ended s self.entry.line.now self.entry.pos verb → MatchResult result (λ x. Ended s self.entry.line.now x.end.pos thing) (λ f. HaltsBy in_line s self.entry f) }
+        ensures goes { (s : State) → Ended s self.entry.line.now self.entry.pos verb → ScansTerm s self.entry thing result }
     {
         let start = self.past::<Blanks>();
         match start.peek() {
@@ -70,7 +70,7 @@ impl<'a> Cursor<'a> {
     // The object, after blanks.
     fn object(self) -> Result<Found<'a>, Fault>
         ensures found { FindsTerm (object part) self.entry result }
-        ensures goes { (s : State) → Ended s self.entry.line.now self.entry.pos thing → MatchResult result (λ x. Ended s self.entry.line.now x.end.pos dot) (λ f. HaltsBy in_line s self.entry f) }
+        ensures goes { (s : State) → Ended s self.entry.line.now self.entry.pos thing → ScansTerm s self.entry dot result }
     {
         let start = self.past::<Blanks>();
         match start.peek() {
@@ -105,7 +105,8 @@ impl<'a> Cursor<'a> {
     }
 }
 
-// What the line holds; a fault's offset counts from the line's first byte.
+// What the line holds; a fault's offset counts from the line's first byte. A struct of `line` and `base` would serve
+// this function and the next alone, so they are two parameters.
 fn content<'a>(line: &'a [u8], base: usize) -> Result<Line<'a>, Fault>
     requires fits { base + length line.now < 2 ^ 64 }
     ensures { MatchResult result (λ l. Reads base line.now (line_reading l)) (λ f. (f.offset ≤ length line.now) × Halts in_line start line.now f.offset (number f.kind)) }

@@ -96,7 +96,9 @@ impl<'a> Cursor<'a> {
 
     // What may follow the string of a literal.
     fn suffix(self) -> Result<Cursor<'a>, Fault>
-        ensures found { MatchResult result (λ e. (e.line ≡ self.entry.line) × (self.entry.pos ≤ e.pos) × Is (suffix part) (piece self.entry.line.now self.entry.pos e.pos)) (λ f. f.offset ≤ length self.entry.line.now) }
+        ensures found { let here = self.entry in MatchResult result
+            (λ e. (e.line ≡ here.line) × (here.pos ≤ e.pos) × Is (suffix part) (piece here.line.now here.pos e.pos))
+            (λ f. f.offset ≤ length here.line.now) }
         ensures goes { (s : State) → Stands s self.entry.line.now self.entry.pos quoted → ScansTo s self.entry (λ e. Ended s self.entry.line.now e dot) result }
     {
         match self.peek() {

@@ -9,8 +9,3 @@ returns-clause-found c =
     MatchResult-weaker c.suffix.result (rw told.0 at c.suffix.ensures.found)
     (λ e h. (h.0, omega (arith, told.1, h.1), build_literal c.args.self.line.now c.args.self.pos c.in_ok-string.field-0.pos e.pos (omega (arith, told.1)) h.1 told.2 h.2))
     (λ f h. h)
-
-pub returns-clause-goes : goal.returns-clause-goes
-returns-clause-goes c =
-    let goes = rw c.in_ok-string.ensures.found.0 at c.suffix.ensures.goes in
-    λ s h. goes s (c.in_ok-string.ensures.goes s h)

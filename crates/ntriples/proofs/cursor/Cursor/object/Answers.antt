@@ -1,8 +1,8 @@
 use Rattle.std.proofs.Common.{get_or, refl, arith}
-use Rattle.std.proofs.lemmas.Result.{MatchResult-weaker}
 use Rattle.grammar.specs.Scanner.{thing, dot, last, iri, under, string, in_line}
-use Rattle.grammar.proofs.Steps.{wider, blanks-ended}
+use Rattle.grammar.proofs.Steps.{blanks-ended}
 use Rattle.grammar.proofs.Moves.{no_thing, after-byte, after_stuck}
+use Rattle.ntriples.proofs.TermKinds.{term-in_line}
 use Rattle.ntriples.proofs.cursor.Cursor.object.Goals as goal
 use Rattle.ntriples.proofs.cursor.Cursor.object.Goals.{in_default-via-in-Some+in_default, in_default-via-in_default}
 
@@ -13,9 +13,8 @@ returns-in-Some-eq60-clause-goes c =
     let start = c.past-start.ensures in
     let here = rw start.same at c.in-Some-eq60.ensures in
     let goes = rw start.same at c.term.ensures.goes in
-    λ s h. MatchResult-weaker c.term.result
+    λ s h. term-in_line s bs dot c.term.result
     (goes s dot (iri dot) refl (after-byte s bs from thing (blanks-ended s bs _ from thing start.run h) 60 (iri dot) here.0 (omega (arith, here.1)) refl))
-    (λ x k. k) (λ f k. wider s bs _ _ k)
 
 pub returns-in-Some-eq95-clause-goes : goal.returns-in-Some-eq95-clause-goes
 returns-in-Some-eq95-clause-goes c =
@@ -24,9 +23,8 @@ returns-in-Some-eq95-clause-goes c =
     let start = c.past-start.ensures in
     let here = rw start.same at c.in-Some-eq95.ensures in
     let goes = rw start.same at c.term-in-Some-eq95.ensures.goes in
-    λ s h. MatchResult-weaker c.term-in-Some-eq95.result
+    λ s h. term-in_line s bs dot c.term-in-Some-eq95.result
     (goes s dot (under last) (last, refl, refl) (after-byte s bs from thing (blanks-ended s bs _ from thing start.run h) 95 (under last) here.0 (omega (arith, here.1)) refl))
-    (λ x k. k) (λ f k. wider s bs _ _ k)
 
 pub returns-in-Some-eq34-clause-goes : goal.returns-in-Some-eq34-clause-goes
 returns-in-Some-eq34-clause-goes c =
@@ -35,9 +33,8 @@ returns-in-Some-eq34-clause-goes c =
     let start = c.past-start.ensures in
     let here = rw start.same at c.in-Some-eq34.ensures in
     let goes = rw start.same at c.term-in-Some-eq34.ensures.goes in
-    λ s h. MatchResult-weaker c.term-in-Some-eq34.result
+    λ s h. term-in_line s bs dot c.term-in-Some-eq34.result
     (goes s dot string (refl, refl) (after-byte s bs from thing (blanks-ended s bs _ from thing start.run h) 34 string here.0 (omega (arith, here.1)) refl))
-    (λ x k. k) (λ f k. wider s bs _ _ k)
 
 pub returns-in_default-clause-goes : goal.returns-in_default-clause-goes
 returns-in_default-clause-goes c =

@@ -1,8 +1,8 @@
 use Rattle.std.proofs.Common.{get_or, refl, arith}
-use Rattle.std.proofs.lemmas.Result.{MatchResult-weaker}
 use Rattle.grammar.specs.Scanner.{verb, thing, iri, in_line}
-use Rattle.grammar.proofs.Steps.{wider, blanks-ended}
+use Rattle.grammar.proofs.Steps.{blanks-ended}
 use Rattle.grammar.proofs.Moves.{no_verb, after-byte, after_stuck}
+use Rattle.ntriples.proofs.TermKinds.{term-in_line}
 use Rattle.ntriples.proofs.cursor.Cursor.predicate.Goals as goal
 use Rattle.ntriples.proofs.cursor.Cursor.predicate.Goals.{in_default-via-in-Some+in_default, in_default-via-in_default}
 
@@ -13,9 +13,8 @@ returns-in-Some-eq60-clause-goes c =
     let start = c.past-start.ensures in
     let here = rw start.same at c.in-Some-eq60.ensures in
     let goes = rw start.same at c.term.ensures.goes in
-    λ s h. MatchResult-weaker c.term.result
+    λ s h. term-in_line s bs thing c.term.result
     (goes s thing (iri thing) refl (after-byte s bs from verb (blanks-ended s bs _ from verb start.run h) 60 (iri thing) here.0 (omega (arith, here.1)) refl))
-    (λ x k. k) (λ f k. wider s bs _ _ k)
 
 pub returns-in_default-clause-goes : goal.returns-in_default-clause-goes
 returns-in_default-clause-goes c =
