@@ -17,8 +17,8 @@ pub enum Added {
 // Why a triple is not added: a number of it is not below the side, or the store is full.
 #[derive(Clone, Copy, PartialEq, Eq, Debug)]
 pub enum Refusal {
-    Outside,
-    Full,
+    Outside = 6,
+    Full = 7,
 }
 
 impl Refusal {
@@ -26,10 +26,7 @@ impl Refusal {
     pub fn number(self) -> u8
         ensures { result ≡ number self }
     {
-        match self {
-            Refusal::Outside => 6,
-            Refusal::Full => 7,
-        }
+        self as u8
     }
 }
 
