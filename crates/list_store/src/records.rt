@@ -1,12 +1,12 @@
 // Scans of a slice of triples.
 ghost use Rattle.std.specs.Prelude.{◌≡◌, ◌+◌, ◌*◌, is_some, Decides};
-ghost use Rattle.triples.specs.Codes.{width};
+ghost use Rattle.triples.specs.Codes.{width, code_of};
 ghost use Rattle.triples.specs.Sets.{among};
-ghost use Rattle.triples.specs.Questions.{Next};
+ghost use Rattle.triples.specs.Questions.{Next, Asked};
 ghost use Rattle.list_store.specs.Records.{Finds};
 
 use triples::question::Question;
-use triples::triple::Triple;
+use triples::triple::{Code, Triple};
 
 // Subject and predicate as one number, so that a scan compares both at once: with the derived `==` it is half as fast.
 fn row(triple: Triple) -> u16
@@ -26,7 +26,11 @@ pub fn position(records: &[Triple], triple: Triple) -> Option<usize>
     ensures first { Finds records.now triple result }
     ensures found { is_some result ≡ among records.now triple }
 {
-    records.iter().position(|record| is_same(*record, triple))
+    records.iter().position(
+        |record| -> bool
+            ensures { Decides result (record.now ≡ triple) }
+        { is_same(*record, triple) },
+    )
 }
 
 // The record of least code that answers the question.
@@ -36,6 +40,14 @@ pub(crate) fn least(records: &[Triple], question: Question) -> Option<Triple>
     records
         .iter()
         .copied()
-        .filter(|triple| question.answers(*triple))
-        .min_by_key(|triple| triple.code())
+        .filter(
+            |triple| -> bool
+                ensures { Decides result (Asked question triple.now) }
+            { question.answers(*triple) },
+        )
+        .min_by_key(
+            |triple| -> Code
+                ensures { result ≡ code_of triple.now }
+            { triple.code() },
+        )
 }
