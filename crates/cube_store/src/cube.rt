@@ -25,7 +25,7 @@ fn mark(words: &mut [u64], triple: Triple)
     requires room { rows ≤ length words.old }
     ensures { words.new ≡ marking words.old triple }
 {
-    let row = row_of(triple.subject, triple.predicate);
+    let row = row_of(triple);
     words[row] = with_bit(words[row], triple.object);
 }
 
