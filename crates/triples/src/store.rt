@@ -31,7 +31,7 @@ impl Refusal {
 }
 
 // A store means a set of triples. Its side bounds the numbers in them and its capacity how many there are; neither ever
-// changes.
+// changes, which each of the two has a clause for: one definition over both would be no shorter to cite.
 pub trait TripleStore {
     ghost side_of: { Self → ℕ };
 
