@@ -21,6 +21,7 @@ pub struct Calls {
     pub clears: u64,
 }
 
+// The counters are not one `Calls`: questions are counted behind a `&`, in a cell, of which a clause can say nothing.
 #[derive(Drop)]
 pub struct CountingStore<S> {
     store: S,
@@ -95,6 +96,7 @@ impl<S: TripleStore> TripleStore for CountingStore<S> {
         self.store.next(question)
     }
 
+    // A method with a clause of its own has to repeat those of the trait.
     fn add(&mut self, triple: Triple) -> Result<Added, Refusal>
         ensures side { S.TripleStore.side_of self.new.store ≡ S.TripleStore.side_of self.old.store }
         ensures capacity { S.TripleStore.capacity_of self.new.store ≡ S.TripleStore.capacity_of self.old.store }

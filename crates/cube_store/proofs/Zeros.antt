@@ -1,8 +1,10 @@
 -- The bits below a word's trailing zeros, and the least set bit from a bit on.
-use Rattle.std.proofs.Common.{◌≡◌, ℕ, zero, suc, ◌+◌, ◌-◌, ◌/◌, ◌%◌, ◌^◌, ◌<◌, ◌≤◌, true, false, sym, refl, ap, ◌∙◌, ⊎_elim, one-add, arith}
+use Rattle.std.proofs.Common.{◌≡◌, ℕ, zero, suc, ◌+◌, ◌-◌, ◌/◌, ◌%◌, ◌^◌, ◌<◌, ◌≤◌, Bool, true, false, ltb, Option, sym, refl, ap, ◌∙◌, subst, ⊎_elim, one-add, arith}
 use Rattle.std.specs.Int.Count.{count_trailing_zeros, under}
-use Rattle.std.proofs.lemmas.Bool.{cases_lt, both_ways, eq-eqb, ne_eqb}
+use Rattle.std.specs.Bool.{then_some}
+use Rattle.std.proofs.lemmas.Bool.{cases_lt, both_ways, eq-eqb, ne_eqb, lt-ltb, le-ltb}
 use Rattle.cube_store.specs.Bits.{bit_at}
+use Rattle.cube_store.specs.Searches.{FirstBit}
 use Rattle.cube_store.proofs.WordBits.{bit_shr}
 
 bit_suc : (n j : ℕ) → bit_at n (suc j) ≡ bit_at (n / 2) j
@@ -38,7 +40,7 @@ zeros_set (suc k) n h = set_step n (count_trailing_zeros k (n / 2)) k (n % 2) (�
 
 module _ (w a : ℕ) where
   -- no bit between a and the place that the trailing zeros give
-  pub first_passes : (k : ℕ) → a ≤ k → bit_at w k ≡ true → a + count_trailing_zeros 64 (w / 2 ^ a) ≤ k
+  first_passes : (k : ℕ) → a ≤ k → bit_at w k ≡ true → a + count_trailing_zeros 64 (w / 2 ^ a) ≤ k
   first_passes k l h =
       ⊎_elim
       (λ lt.
@@ -49,5 +51,15 @@ module _ (w a : ℕ) where
       (λ ge. ge)
       (cases_lt k (a + count_trailing_zeros 64 (w / 2 ^ a)))
 
-  pub first_set : a + count_trailing_zeros 64 (w / 2 ^ a) < 64 → bit_at w (a + count_trailing_zeros 64 (w / 2 ^ a)) ≡ true
+  first_set : a + count_trailing_zeros 64 (w / 2 ^ a) < 64 → bit_at w (a + count_trailing_zeros 64 (w / 2 ^ a)) ≡ true
   first_set l = sym (bit_shr w a _) ∙ zeros_set 64 (w / 2 ^ a) (omega arith)
+
+  -- the place, if it is below b, is the first set bit
+  pub first_found : (b : ℕ) (r : Option ℕ) → b ≤ 64 → r ≡ then_some (ltb (a + count_trailing_zeros 64 (w / 2 ^ a)) b) (a + count_trailing_zeros 64 (w / 2 ^ a)) → FirstBit w a b r
+  first_found b r l e =
+      let o : ℕ = a + count_trailing_zeros 64 (w / 2 ^ a) in
+      subst (FirstBit w a b) (sym e)
+      (⊎_elim
+      (λ lt. subst (λ (t : Bool). FirstBit w a b (then_some t o)) (sym (lt-ltb o b lt)) (omega arith, lt, first_set (omega arith), first_passes))
+      (λ ge. subst (λ (t : Bool). FirstBit w a b (then_some t o)) (sym (le-ltb o b ge)) (λ k from to h. omega (arith, first_passes k from h)))
+      (cases_lt o b))

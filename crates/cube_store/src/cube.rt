@@ -25,11 +25,11 @@ fn mark(words: &mut [u64], triple: Triple)
     requires room { rows ≤ length words.old }
     ensures { words.new ≡ marking words.old triple }
 {
-    let row = row_of(triple.subject, triple.predicate);
+    let row = row_of(triple);
     words[row] = with_bit(words[row], triple.object);
 }
 
-// The words that were lent to the store.
+// The words that were lent to the store, since there is no heap.
 #[derive(Drop)]
 pub struct Words<'a> {
     words: &'a mut [u64],
@@ -124,6 +124,7 @@ impl<'a> TripleStore for CubeStore<'a> {
         seek(self.marks.words, question)
     }
 
+    // `self.has` would be the lent store's.
     fn add(&mut self, triple: Triple) -> Result<Added, Refusal> {
         if !inside(triple) {
             return Err(Refusal::Outside);

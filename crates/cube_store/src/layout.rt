@@ -23,22 +23,22 @@ pub fn inside(triple: Triple) -> bool
         && usize::from(triple.object) < SIDE
 }
 
-// The place of the word of a subject and a predicate.
-pub fn row_of(subject: TermNumber, predicate: TermNumber) -> usize
-    ensures { result ≡ row_of subject predicate }
+// The place of the word that has the triple's bit.
+pub fn row_of(triple: Triple) -> usize
+    ensures { result ≡ row_of triple.subject triple.predicate }
 {
-    SIDE * usize::from(subject) + usize::from(predicate)
+    SIDE * usize::from(triple.subject) + usize::from(triple.predicate)
 }
 
-// The word of a subject and a predicate. A word past the end counts as 0.
-pub fn word_at(words: &[u64], subject: TermNumber, predicate: TermNumber) -> u64
-    ensures { result ≡ slice_index words.now (row_of subject predicate) }
+// The word that has the triple's bit. A word past the end counts as 0.
+pub fn word_at(words: &[u64], triple: Triple) -> u64
+    ensures { result ≡ slice_index words.now (row_of triple.subject triple.predicate) }
 {
-    let row = row_of(subject, predicate);
-    if row < words.len() { words[row] } else { 0 }
+    words.get(row_of(triple)).copied().unwrap_or(0)
 }
 
 // Whether the object's bit of the word is set.
+#[tactic(auto, unfolding(crate::specs::Bits::bit_at))]
 fn has_bit(word: u64, object: TermNumber) -> bool
     requires { object < side }
     ensures { result ≡ bit_at word object }
@@ -50,18 +50,12 @@ fn has_bit(word: u64, object: TermNumber) -> bool
 pub fn is_marked(words: &[u64], triple: Triple) -> bool
     ensures { result ≡ bits words.now triple }
 {
-    inside(triple)
-        && has_bit(
-            word_at(words, triple.subject, triple.predicate),
-            triple.object,
-        )
+    inside(triple) && has_bit(word_at(words, triple), triple.object)
 }
 
 // Sets every word to 0.
 pub fn wipe(words: &mut [u64])
     ensures { (k : ℕ) → slice_index words.new k ≡ 0 }
 {
-    for word in words.iter_mut() {
-        *word = 0;
-    }
+    words.fill(0);
 }

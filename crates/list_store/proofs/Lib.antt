@@ -1,2 +1,4 @@
 pub mod Among
+pub mod Finding
 pub mod Growth
+pub mod Leasts

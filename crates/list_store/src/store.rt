@@ -13,7 +13,7 @@ use triples::triple::{Triple, WIDTH};
 // The most records that a store keeps.
 pub const MOST: usize = 65_536;
 
-// The first `len` records are the triples in the store, each once.
+// The first `len` records are the triples in the store, each once. There is no heap, so the slice is lent.
 #[derive(Drop)]
 pub struct ListStore<'a> {
     records: &'a mut [Triple],
@@ -31,7 +31,7 @@ impl<'a> ListStore<'a> {
     {
         let room = records.len().min(MOST);
         ListStore {
-            records: &mut records[0..room],
+            records: &mut records[..room],
             len: 0,
         }
     }
@@ -40,7 +40,7 @@ impl<'a> ListStore<'a> {
     fn stored(&self) -> &[Triple]
         ensures { result.now ≡ take self.now.len self.now.records.now }
     {
-        &self.records[0..self.len]
+        &self.records[..self.len]
     }
 
     // Appends a triple that is not in the store, which is not full.
@@ -49,9 +49,8 @@ impl<'a> ListStore<'a> {
         ensures room { length self.new.records.now ≡ length self.old.records.now }
         ensures more { among (take self.new.len self.new.records.now) ≡ adding (among (take self.old.len self.old.records.now)) triple }
     {
-        let end = self.len;
-        self.records[end] = triple;
-        self.len = end + 1;
+        self.records[self.len] = triple;
+        self.len += 1;
     }
 
     // Keeps the first `n` records, or all where there are fewer.
@@ -59,9 +58,7 @@ impl<'a> ListStore<'a> {
         ensures room { length self.new.records.now ≡ length self.old.records.now }
         ensures kept { among (take self.new.len self.new.records.now) ≡ among (take (min n self.old.len) self.old.records.now) }
     {
-        if n < self.len {
-            self.len = n;
-        }
+        self.len = self.len.min(n);
     }
 }
 
@@ -94,7 +91,8 @@ impl<'a> TripleStore for ListStore<'a> {
         least(self.stored(), question)
     }
 
-    // A triple is always inside: a term number is below the width.
+    // A triple is always inside: a term number is below the width. `self.has` would be the lent store's. The cube's add has
+    // the same steps: to share them, `push` would have to be a call of the trait that asks for room.
     fn add(&mut self, triple: Triple) -> Result<Added, Refusal> {
         if (*self).has(triple) {
             return Ok(Added::Had);

@@ -11,6 +11,7 @@ use triples::triple::{Code, Triple};
 use walks::copying::{Stopped, copy_all};
 use walks::counting::count_fitting;
 use walks::step::{after, first};
+use walks::walk::Walk;
 
 const BLANK: Triple = Triple {
     subject: 0,
@@ -26,17 +27,22 @@ fn triple(subject: u8, predicate: u8, object: u8) -> Triple {
     }
 }
 
-// The next of a sequence of triples of numbers below 64 that looks random.
-fn scatter(seed: u32) -> u32 {
-    seed.wrapping_mul(1_664_525).wrapping_add(1_013_904_223)
-}
+// A sequence of triples of numbers below 64 that looks random, from a seed.
+#[derive(Drop)]
+struct Scattered(u32);
 
-fn scattered(seed: u32) -> Triple {
-    triple(
-        (seed >> 26) as u8,
-        ((seed >> 20) & 7) as u8,
-        ((seed >> 14) & 63) as u8,
-    )
+impl Iterator for Scattered {
+    type Item = Triple;
+
+    fn next(&mut self) -> Option<Triple> {
+        let seed = self.0.wrapping_mul(1_664_525).wrapping_add(1_013_904_223);
+        self.0 = seed;
+        Some(triple(
+            (seed >> 26) as u8,
+            ((seed >> 20) & 7) as u8,
+            ((seed >> 14) & 63) as u8,
+        ))
+    }
 }
 
 // Answers of an empty store with room for two triples at least.
@@ -121,45 +127,37 @@ fn calls_are_counted(rt: HostRuntime) {
 
 // Adds the first `n` triples of the sequence, and tells how many were new.
 fn add_scattered<S: TripleStore>(store: &mut S, n: usize) -> usize {
-    let mut seed = 1;
-    for _ in 0..n {
-        seed = scatter(seed);
-        let _ = store.add(scattered(seed));
+    for triple in Scattered(1).take(n) {
+        let _ = store.add(triple);
     }
     store.count()
 }
 
 // Walks the store, and compares its codes with those of the set.
-fn agrees<S: TripleStore>(rt: &impl Abort, store: &S, codes: &BTreeSet<Code>) -> Result<(), Fail> {
+fn agrees<S: TripleStore>(rt: &impl Abort, store: &S, codes: &BTreeSet<Code>) {
     assert_eq!(rt; store.count(), codes.len());
-    let mut candidate = first(store, Pattern::FREE);
+    let mut walk = Walk::new(store, Pattern::FREE);
     for code in codes {
-        let Some(triple) = candidate else {
-            return Err(Fail::new("the store ends early"));
-        };
-        assert_eq!(rt; triple.code(), *code);
-        candidate = after(store, Pattern::FREE, triple);
+        assert_eq!(rt; walk.next().map(|triple| triple.code()), Some(*code));
     }
-    assert_eq!(rt; candidate, None);
-    Ok(())
+    assert_eq!(rt; walk.next(), None);
 }
 
 #[test]
 fn stores_agree(rt: HostRuntime) -> Result<(), Fail> {
     let mut codes = BTreeSet::new(rt.alloc());
-    let mut seed = 1;
-    for _ in 0..700 {
-        seed = scatter(seed);
-        let _ = codes.insert(scattered(seed).code())?;
+    for triple in Scattered(1).take(700) {
+        let _ = codes.insert(triple.code())?;
     }
     let mut records = [BLANK; 700];
     let mut list = ListStore::new(&mut records);
     assert_eq!(rt; add_scattered(&mut list, 700), codes.len());
-    agrees(&rt, &list, &codes)?;
+    agrees(&rt, &list, &codes);
     let mut words = [0; 4096];
     let mut cube = CubeStore::new(&mut words);
     assert_eq!(rt; copy_all(&list, &mut cube), Ok(()));
-    agrees(&rt, &cube, &codes)
+    agrees(&rt, &cube, &codes);
+    Ok(())
 }
 
 #[test]
@@ -183,15 +181,13 @@ fn fitting_triples(rt: HostRuntime) {
     let mut words = [0; 4096];
     let mut cube = CubeStore::new(&mut words);
     let _ = add_scattered(&mut cube, 700);
-    let mut total: usize = 0;
-    for predicate in 0..8u8 {
+    let total = (0..8u8).fold(0, |total: usize, predicate| {
         let pattern = Pattern {
-            subject: None,
             predicate: Some(predicate),
-            object: None,
+            ..Pattern::FREE
         };
-        total = total.saturating_add(count_fitting(&cube, pattern));
-    }
+        total.saturating_add(count_fitting(&cube, pattern))
+    });
     assert_eq!(rt; total, cube.count());
     assert_eq!(rt; count_fitting(&cube, Pattern::FREE), cube.count());
 }

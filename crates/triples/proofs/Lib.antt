@@ -4,3 +4,4 @@ pub mod Tallies
 pub mod Sizes
 pub mod Additions
 pub mod Lawfulness
+pub mod Matching

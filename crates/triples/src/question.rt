@@ -1,6 +1,6 @@
 // Questions about a set of triples.
 ghost use Rattle.std.specs.Prelude.{Decides};
-ghost use Rattle.triples.specs.Questions.{Fit, Fits};
+ghost use Rattle.triples.specs.Questions.{Fit, Fits, Asked};
 
 use crate::triple::{Code, TermNumber, Triple};
 
@@ -23,10 +23,7 @@ pub struct Question {
 pub fn fits_position(position: Option<TermNumber>, term: TermNumber) -> bool
     ensures { Decides result (Fit position term) }
 {
-    match position {
-        None => true,
-        Some(wanted) => term == wanted,
-    }
+    position.is_none_or(|wanted| term == wanted)
 }
 
 impl Pattern {
@@ -43,5 +40,14 @@ impl Pattern {
         fits_position(self.subject, triple.subject)
             && fits_position(self.predicate, triple.predicate)
             && fits_position(self.object, triple.object)
+    }
+}
+
+impl Question {
+    // Whether the triple answers the question. The positions are tested before a code is computed.
+    pub fn answers(self, triple: Triple) -> bool
+        ensures { Decides result (Asked self triple) }
+    {
+        self.pattern.fits(triple) && self.lowest <= triple.code()
     }
 }

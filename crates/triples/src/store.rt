@@ -17,8 +17,8 @@ pub enum Added {
 // Why a triple is not added: a number of it is not below the side, or the store is full.
 #[derive(Clone, Copy, PartialEq, Eq, Debug)]
 pub enum Refusal {
-    Outside,
-    Full,
+    Outside = 6,
+    Full = 7,
 }
 
 impl Refusal {
@@ -26,15 +26,12 @@ impl Refusal {
     pub fn number(self) -> u8
         ensures { result ≡ number self }
     {
-        match self {
-            Refusal::Outside => 6,
-            Refusal::Full => 7,
-        }
+        self as u8
     }
 }
 
 // A store means a set of triples. Its side bounds the numbers in them and its capacity how many there are; neither ever
-// changes.
+// changes, which each of the two has a clause for: one definition over both would be no shorter to cite.
 pub trait TripleStore {
     ghost side_of: { Self → ℕ };
 

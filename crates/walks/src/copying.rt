@@ -2,7 +2,7 @@
 ghost use Rattle.std.specs.Prelude.{◌≡◌};
 ghost use Rattle.walks.specs.Copies.{Copies};
 
-use crate::step::{after, first};
+use crate::walk::Walk;
 use triples::question::Pattern;
 use triples::store::{Refusal, TripleStore};
 use triples::triple::Triple;
@@ -20,12 +20,9 @@ pub fn copy_all<S: TripleStore, R: TripleStore>(from: &S, to: &mut R) -> Result<
     ensures capacity { R.TripleStore.capacity_of to.new ≡ R.TripleStore.capacity_of to.old }
     ensures copies { Copies (R.TripleStore.side_of to.old) (R.TripleStore.capacity_of to.old) (S.TripleStore.held from.now) (R.TripleStore.held to.old) (R.TripleStore.held to.new) result }
 {
-    let mut candidate = first(from, Pattern::FREE);
-    while let Some(triple) = candidate {
-        if let Err(refusal) = to.add(triple) {
-            return Err(Stopped { triple, refusal });
-        }
-        candidate = after(from, Pattern::FREE, triple);
+    for triple in Walk::new(from, Pattern::FREE) {
+        to.add(triple)
+            .map_err(|refusal| Stopped { triple, refusal })?;
     }
     Ok(())
 }

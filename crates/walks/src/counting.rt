@@ -1,30 +1,22 @@
 // Counting the triples that fit.
-ghost use Rattle.triples.specs.Questions.{Next};
+ghost use Rattle.std.specs.Prelude.{◌≡◌};
 ghost use Rattle.walks.specs.Selections.{Counts};
-ghost use Rattle.walks.specs.Steps.{from_start};
 
-use crate::step::{after, first};
+use crate::walk::Walk;
 use triples::question::Pattern;
 use triples::store::TripleStore;
-use triples::triple::Triple;
 
 // How many triples of the store fit the pattern.
 pub fn count_fitting<S: TripleStore>(store: &S, pattern: Pattern) -> usize
     ensures { Counts (S.TripleStore.held store.now) pattern result }
 {
-    count_from(store, pattern, first(store, pattern))
+    walk_length(Walk::new(store, pattern))
 }
 
-// The same, where the first triple that fits is known.
-fn count_from<S: TripleStore>(store: &S, pattern: Pattern, start: Option<Triple>) -> usize
-    requires { Next (S.TripleStore.held store.now) (from_start pattern) start }
-    ensures { Counts (S.TripleStore.held store.now) pattern result }
+// How many triples a walk from the start gives.
+fn walk_length<S: TripleStore>(walk: Walk<'_, S>) -> usize
+    requires { walk.question.lowest ≡ 0 }
+    ensures { Counts (S.TripleStore.held walk.entry.store.now) walk.entry.question.pattern result }
 {
-    let mut n = 0;
-    let mut candidate = start;
-    while let Some(triple) = candidate {
-        n += 1;
-        candidate = after(store, pattern, triple);
-    }
-    n
+    walk.count()
 }

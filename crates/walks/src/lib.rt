@@ -4,3 +4,4 @@
 pub mod copying;
 pub mod counting;
 pub mod step;
+pub mod walk;

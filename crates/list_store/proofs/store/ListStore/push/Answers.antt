@@ -21,7 +21,5 @@ invariant_of-self c =
       within = λ u h. ⊎_elim (λ e. subst (Inside width) (sym e) inside) (s.within u) (adding_cases f t u (ap (λ (g : Graph). g u) (sym put) ∙ h));
     }
 
-pub returns : goal.returns
-returns c =
-    let s = c.args.self.now in
-    record { room = simp length-set; more = among-put s.records.now s.len c.args.triple c.requires.1 }
+pub returns-clause-more : goal.returns-clause-more
+returns-clause-more c = among-put c.args.self.now.records.now c.args.self.now.len c.args.triple c.requires.1

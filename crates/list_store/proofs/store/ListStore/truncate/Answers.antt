@@ -8,9 +8,9 @@ use Rattle.list_store.proofs.store.ListStore.truncate.Goals as goal
 pub invariant_of-self-clause-counted : goal.invariant_of-self-clause-counted
 invariant_of-self-clause-counted c =
     let s = c.args.self.now in
-    first_counted s.records.now (triple_of 0) s.len c.args.n s.room.1 (omega arith) s.counted
+    first_counted s.records.now (triple_of 0) s.len c.min-self.result s.room.1 (omega (arith, c.min-self.ensures)) s.counted
 
 pub invariant_of-self-clause-within : goal.invariant_of-self-clause-within
 invariant_of-self-clause-within c =
     let s = c.args.self.now in
-    λ t h. s.within t (among_first s.records.now c.args.n s.len t (omega arith) h)
+    λ t h. s.within t (among_first s.records.now c.min-self.result s.len t (omega (arith, c.min-self.ensures)) h)
