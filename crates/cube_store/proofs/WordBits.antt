@@ -1,50 +1,73 @@
--- The bits of a word: one bit more, no bit, and the bits of a shifted word.
-use Rattle.std.proofs.Common.{◌≡◌, ℕ, zero, suc, ◌+◌, ◌-◌, ◌/◌, ◌%◌, ◌^◌, ◌<◌, true, false, eqb, ◌≢◌, sym, refl, ap, ◌∙◌, ⊎_elim, one-mul, arith}
-use Rattle.std.proofs.Math.Nat.{zero-div, div-eq_of_lt}
-use Rattle.std.specs.Int.Bits.{bit_or, or_zero_r}
-use Rattle.std.proofs.lemmas.Nat.{pow-add, shl-shr, shr-shr, pow_below, or_shr, or_mod}
-use Rattle.std.proofs.lemmas.Bool.{cases_order, eq-eqb}
+-- The bits of a word: one bit more, no bit, the bits of a shifted word, and the least set bit from a bit on.
+use Rattle.std.proofs.Common.{◌≡◌, ℕ, ◌+◌, ◌-◌, ◌/◌, ◌%◌, ◌^◌, ◌<◌, ◌≤◌, max, Bool, true, false, eqb, ltb, ◌≢◌, Option, w64, sym, ap, ◌∙◌, subst, ⊎_elim, arith}
+use Rattle.std.specs.Bool.{then_some}
+use Rattle.std.specs.Int.Bits.{bit_or}
+use Rattle.std.specs.Int.Count.{count_trailing_zeros, trailing_of_zero}
+use Rattle.std.proofs.Math.Nat.{div-le_self}
+use Rattle.std.proofs.lemmas.Nat.{shr-shr}
+use Rattle.std.proofs.lemmas.Nat.Bits.{bit_at_or, bit_at-pow_same, bit_at-pow_other, bit_at-zero, bit_at-trailing_zeros}
+use Rattle.std.proofs.lemmas.Bool.{cases_eq, cases_lt, eq-eqb, eqb-true, lt-ltb, le-ltb}
 use Rattle.cube_store.specs.Bits.{bit_at}
-
-pow_here : (c : ℕ) → 2 ^ c / 2 ^ c % 2 ≡ 1
-pow_here c = ap (λ x. x / 2 ^ c % 2) (sym (one-mul (2 ^ c))) ∙ ap (λ x. x % 2) (shl-shr 1 c)
-
-pow_there : (c j : ℕ) → j ≢ c → 2 ^ c / 2 ^ j % 2 ≡ 0
-pow_there c j ne =
-    ⊎_elim
-    (λ e. absurd (ne e))
-    (⊎_elim
-    (λ lt.
-    let m : ℕ = c - j - 1 in
-    let e : c ≡ (m + 1) + j = omega arith in
-    ap (λ x. 2 ^ x / 2 ^ j % 2) e
-    ∙ ap (λ x. x / 2 ^ j % 2) (pow-add 2 (m + 1) j)
-    ∙ ap (λ x. x % 2) (shl-shr (2 ^ (m + 1)) j ∙ pow-add 2 m 1)
-    ∙ omega arith)
-    (λ gt. ap (λ x. x % 2) (div-eq_of_lt (pow_below c j gt))))
-    (cases_order j c)
-
-or_bit : (w c j : ℕ) → bit_or w (2 ^ c) / 2 ^ j % 2 ≡ bit_or (w / 2 ^ j % 2) (2 ^ c / 2 ^ j % 2)
-or_bit w c j = ap (λ x. x % 2) (or_shr w (2 ^ c) j) ∙ or_mod (w / 2 ^ j) (2 ^ c / 2 ^ j) 1
-
-or_one : (x : ℕ) → x < 2 → bit_or x 1 ≡ 1
-or_one zero h = refl
-or_one (suc zero) h = refl
-or_one (suc (suc x)) h = absurd (omega arith)
+use Rattle.cube_store.specs.Searches.{FirstBit}
 
 pub bit_put : (w c : ℕ) → bit_at (bit_or w (2 ^ c)) c ≡ true
 unfolding bit_at
-bit_put w c = eq-eqb _ 1 (or_bit w c c ∙ ap (bit_or (w / 2 ^ c % 2)) (pow_here c) ∙ or_one (w / 2 ^ c % 2) (omega arith))
+bit_put w c =
+    let one : max (w / 2 ^ c % 2) 1 ≡ 1 = omega arith in
+    eq-eqb _ 1 (bit_at_or w (2 ^ c) c ∙ ap (max (w / 2 ^ c % 2)) (bit_at-pow_same c) ∙ one)
 
 pub bit_other : (w c j : ℕ) → j ≢ c → bit_at (bit_or w (2 ^ c)) j ≡ bit_at w j
 unfolding bit_at
 bit_other w c j ne =
-    ap (λ x. eqb x 1) (or_bit w c j ∙ ap (bit_or (w / 2 ^ j % 2)) (pow_there c j ne) ∙ or_zero_r (w / 2 ^ j % 2))
+    let same : max (w / 2 ^ j % 2) 0 ≡ w / 2 ^ j % 2 = omega arith in
+    ap (λ x. eqb x 1) (bit_at_or w (2 ^ c) j ∙ ap (max (w / 2 ^ j % 2)) (bit_at-pow_other c j ne) ∙ same)
 
 pub bit_zero : (o : ℕ) → bit_at 0 o ≡ false
 unfolding bit_at
-bit_zero o = ap (λ x. eqb (x % 2) 1) (zero-div (2 ^ o))
+bit_zero o = ap (λ x. eqb x 1) (bit_at-zero o)
 
-pub bit_shr : (w a j : ℕ) → bit_at (w / 2 ^ a) j ≡ bit_at w (a + j)
-unfolding bit_at
-bit_shr w a j = ap (λ x. eqb (x % 2) 1) (shr-shr w a j)
+module _ (w a b : ℕ) (fits : w < 2 ^ 64) where
+  abbrev rest : ℕ
+  rest = w / 2 ^ a
+
+  abbrev zeros : ℕ
+  zeros = count_trailing_zeros 64 rest
+
+  small : rest < 2 ^ 64
+  small = omega (arith, div-le_self w (2 ^ a))
+
+  bit_shr : (j : ℕ) → rest / 2 ^ j % 2 ≡ w / 2 ^ (a + j) % 2
+  bit_shr j = ap (λ x. x % 2) (shr-shr w a j)
+
+  -- no bit between a and the place that the trailing zeros give
+  passes : (k : ℕ) → a ≤ k → bit_at w k ≡ true → a + zeros ≤ k
+  unfolding bit_at
+  passes k l h =
+      let m : ℕ = k - a in
+      let e : a + m ≡ k = omega arith in
+      let set : rest / 2 ^ m % 2 ≡ 1 = bit_shr m ∙ ap (λ x. w / 2 ^ x % 2) e ∙ eqb-true _ 1 h in
+      ⊎_elim
+      (λ none. let unset : rest / 2 ^ m % 2 ≡ 0 = ap (λ x. x / 2 ^ m % 2) none ∙ bit_at-zero m in absurd (omega arith))
+      (λ some.
+      ⊎_elim
+      (λ lt. let unset : rest / 2 ^ m % 2 ≡ 0 = (bit_at-trailing_zeros w64 rest (omega arith) small).2 m lt in absurd (omega arith))
+      (λ ge. omega arith)
+      (cases_lt m zeros))
+      (cases_eq rest 0)
+
+  is_set : a + zeros < 64 → bit_at w (a + zeros) ≡ true
+  unfolding bit_at
+  is_set l =
+      ⊎_elim
+      (λ none. let all : zeros ≡ 64 = ap (count_trailing_zeros 64) none ∙ trailing_of_zero 64 in absurd (omega arith))
+      (λ some. eq-eqb _ 1 (sym (bit_shr zeros) ∙ (bit_at-trailing_zeros w64 rest (omega arith) small).1))
+      (cases_eq rest 0)
+
+  -- the place, if it is below b, is the first set bit
+  pub first_found : (r : Option ℕ) → b ≤ 64 → r ≡ then_some (ltb (a + zeros) b) (a + zeros) → FirstBit w a b r
+  first_found r l e =
+      subst (FirstBit w a b) (sym e)
+      (⊎_elim
+      (λ lt. subst (λ (t : Bool). FirstBit w a b (then_some t (a + zeros))) (sym (lt-ltb (a + zeros) b lt)) (omega arith, lt, is_set (omega arith), passes))
+      (λ ge. subst (λ (t : Bool). FirstBit w a b (then_some t (a + zeros))) (sym (le-ltb (a + zeros) b ge)) (λ k from to h. omega (arith, passes k from h)))
+      (cases_lt (a + zeros) b))

@@ -3,12 +3,16 @@ use Rattle.std.specs.Prelude.{◌≡◌, ℕ, ◌<◌, ◌≤◌, true, false, L
 use Rattle.std.proofs.Common.{arith}
 use Rattle.triples.specs.declared.triple.Triple.{Triple}
 use Rattle.triples.specs.Codes.{width, Inside}
-use Rattle.triples.specs.Sets.{among, size}
+use Rattle.triples.specs.Sets.{Graph, among, size}
 use Rattle.triples.specs.Stores.{Lawful}
 
 -- the most records that a store keeps
 abbrev pub most : ℕ
 most = 65536
+
+-- the set of the first n records
+abbrev pub stored : ℕ → List Triple → Graph
+stored n ts = among (take n ts)
 
 -- what a search for the triple t finds: the index of the first record that is t
 abbrev pub Finds : List Triple → Triple → Option ℕ → Type 0

@@ -2,8 +2,8 @@
 ghost use Rattle.std.specs.Prelude.{◌≡◌, ◌<◌, ◌≤◌, min, true, false, length, take};
 ghost use Rattle.triples.specs.declared.triple.Triple.{Triple as Of};
 ghost use Rattle.triples.specs.Codes.{width, Inside};
-ghost use Rattle.triples.specs.Sets.{size, adding, empty, among};
-ghost use Rattle.list_store.specs.Records.{most, records_lawful};
+ghost use Rattle.triples.specs.Sets.{size, adding, empty};
+ghost use Rattle.list_store.specs.Records.{most, stored, records_lawful};
 
 use crate::records::{least, position};
 use triples::question::Question;
@@ -19,15 +19,15 @@ pub struct ListStore<'a> {
     records: &'a mut [Triple],
     len: usize,
     ghost room: { (length records.now ≤ most) × (len ≤ length records.now) },
-    ghost counted: { size (among (take len records.now)) ≡ len },
-    ghost within: { ((t : Of) → among (take len records.now) t ≡ true → Inside width t) },
+    ghost counted: { size (stored len records.now) ≡ len },
+    ghost within: { ((t : Of) → stored len records.now t ≡ true → Inside width t) },
 }
 
 impl<'a> ListStore<'a> {
     // A store that begins empty, whatever the slice holds. What is past the first `MOST` records is not used.
     pub fn new(records: &'a mut [Triple]) -> ListStore<'a>
         ensures capacity { length result.records.now ≡ min (length records.old) most }
-        ensures begins { among (take result.len result.records.now) ≡ empty }
+        ensures begins { stored result.len result.records.now ≡ empty }
     {
         let room = records.len().min(MOST);
         ListStore {
@@ -45,9 +45,9 @@ impl<'a> ListStore<'a> {
 
     // Appends a triple that is not in the store, which is not full.
     fn push(&mut self, triple: Triple)
-        requires { (among (take self.old.len self.old.records.now) triple ≡ false) × (self.old.len < length self.old.records.now) }
+        requires { (stored self.old.len self.old.records.now triple ≡ false) × (self.old.len < length self.old.records.now) }
         ensures room { length self.new.records.now ≡ length self.old.records.now }
-        ensures more { among (take self.new.len self.new.records.now) ≡ adding (among (take self.old.len self.old.records.now)) triple }
+        ensures more { stored self.new.len self.new.records.now ≡ adding (stored self.old.len self.old.records.now) triple }
     {
         self.records[self.len] = triple;
         self.len += 1;
@@ -56,7 +56,7 @@ impl<'a> ListStore<'a> {
     // Keeps the first `n` records, or all where there are fewer.
     fn truncate(&mut self, n: usize)
         ensures room { length self.new.records.now ≡ length self.old.records.now }
-        ensures kept { among (take self.new.len self.new.records.now) ≡ among (take (min n self.old.len) self.old.records.now) }
+        ensures kept { stored self.new.len self.new.records.now ≡ stored (min n self.old.len) self.old.records.now }
     {
         self.len = self.len.min(n);
     }
@@ -67,7 +67,7 @@ impl<'a> TripleStore for ListStore<'a> {
 
     ghost capacity_of = { λ s. length s.records.now };
 
-    ghost held = { λ s. among (take s.len s.records.now) };
+    ghost held = { λ s. stored s.len s.records.now };
 
     ghost lawful = { λ s. records_lawful s.len s.records.now s.room s.counted s.within };
 
