@@ -62,6 +62,7 @@ impl<S: TripleStore> CountingStore<S> {
     }
 }
 
+// Each call is passed on by hand, as by a lent store: there is no shorter form of that.
 impl<S: TripleStore> TripleStore for CountingStore<S> {
     ghost side_of = { λ s. S.TripleStore.side_of s.store };
 

@@ -10,7 +10,8 @@ use std::ops::Range;
 use triples::question::Question;
 use triples::triple::{Code, TermNumber, Triple, WIDTH};
 
-// The numbers inside the side, not below the floor, that fit the position.
+// The numbers inside the side, not below the floor, that fit the position. Three casts here and below are of numbers up to 64:
+// `TryFrom` would have an error that never comes.
 fn fitting(position: Option<TermNumber>, floor: Code) -> Range<TermNumber>
     ensures { Spans position floor result.start result.end }
 {

@@ -71,6 +71,7 @@ impl<'a> TripleStore for ListStore<'a> {
 
     ghost lawful = { λ s. records_lawful s.len s.records.now s.room s.counted s.within };
 
+    // A cast of a constant: `TryFrom` would have an error that never comes.
     fn side(&self) -> usize {
         WIDTH as usize
     }

@@ -1,4 +1,5 @@
-// The steps of a walk. Code that goes through the triples of a store asks `next` here and nowhere else.
+// The steps of a walk, for code that goes one step at a time; `Walk` keeps the store and the pattern together. Code that goes
+// through the triples of a store asks `next` here or in a walk, and nowhere else.
 ghost use Rattle.triples.specs.Questions.{Next};
 ghost use Rattle.walks.specs.Steps.{from_start, past};
 
