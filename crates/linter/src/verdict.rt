@@ -17,7 +17,7 @@ pub enum Refusal {
 }
 
 impl Refusal {
-    // The refusal number.
+    // The refusal number, which the value inside tells; so there are no discriminants.
     pub fn number(self) -> u8
         ensures { result ≡ refusal_number self }
     {

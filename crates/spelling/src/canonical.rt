@@ -16,7 +16,7 @@ use ntriples::token::Token;
 pub struct TooLong;
 
 impl TooLong {
-    // The refusal number.
+    // The refusal number; this refusal has no kinds.
     pub fn number(self) -> u8
         ensures { result ≡ number self }
     {
