@@ -44,6 +44,7 @@ pub struct CubeStore<'a> {
     ghost counted: { size (bits marks.words.now) ≡ count },
 }
 
+// These pass on to functions of a slice: a store can lend its words whole only out of a field that has no ghost field beside it.
 impl<'a> Words<'a> {
     // Every word to 0.
     fn wipe(&mut self)
@@ -124,7 +125,7 @@ impl<'a> TripleStore for CubeStore<'a> {
         seek(self.marks.words, question)
     }
 
-    // `self.has` would be the lent store's.
+    // `self.has` would be the lent store's. Why the steps of the list store's add stand here again is said there.
     fn add(&mut self, triple: Triple) -> Result<Added, Refusal> {
         if !inside(triple) {
             return Err(Refusal::Outside);

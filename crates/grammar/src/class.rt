@@ -1,5 +1,6 @@
 // The classes of bytes that the productions of the line grammar name. A class is a type, so that one loop over
-// the bytes of a class, written and proved once, serves them all.
+// the bytes of a class, written and proved once, serves them all. A closure would be as long, and carry no ranges for
+// the contracts that name them.
 ghost use Rattle.std.specs.Prelude.{◌≡◌, List};
 ghost use Rattle.grammar.specs.Regular.{Range, inside};
 ghost use Rattle.grammar.specs.Productions.{blank, letter, alnum, label_char, iri_char, string_char, escape_letter, uchar_letter, comment_char};

@@ -26,6 +26,7 @@ pub fn survey(heap: Global, text: &[u8]) -> Result<Survey, AllocError>
 {
     let mut survey = Survey::new(heap);
     let mut pos = 0;
+    // a flag, since the test on the text before `pos` would be no shorter and be made anew
     let mut after_cr = false;
     while let Some(line) = read_line(text, pos) {
         if !is_half_of_pair(text, pos, after_cr) {

@@ -21,9 +21,13 @@ NextIs a b = (a.pos < length a.line.now) × (slice_index a.line.now a.pos ≡ b)
 abbrev pub Spans : Expr → Cursor → Cursor → Type 0
 Spans e a b = (b.line ≡ a.line) × (a.pos < b.pos) × Is e (piece a.line.now a.pos b.pos)
 
+-- an answer of which p holds, or a fault of the line bs
+abbrev pub OrFault : {A : Type 0} → List ℕ → (A → Type 0) → Result A Fault → Type 0
+OrFault bs p r = MatchResult r p (λ f. f.offset ≤ length bs)
+
 -- the place up to which the expression stands, or a fault of the line
 abbrev pub Finds : Expr → Cursor → Result Cursor Fault → Type 0
-Finds e a r = MatchResult r (λ b. Spans e a b) (λ f. f.offset ≤ length a.line.now)
+Finds e a r = OrFault a.line.now (λ b. Spans e a b) r
 
 -- the term that is found past the blanks at the place, and may stand where the expression does
 abbrev pub FoundPast : Expr → Cursor → Found → Type 0
@@ -33,7 +37,7 @@ FoundPast e a x =
 
 -- such a term, or a fault of the line
 abbrev pub FindsTerm : Expr → Cursor → Result Found Fault → Type 0
-FindsTerm e a r = MatchResult r (λ x. FoundPast e a x) (λ f. f.offset ≤ length a.line.now)
+FindsTerm e a r = OrFault a.line.now (λ x. FoundPast e a x) r
 
 -- the scanner, which began the line in the state s, halts by the fault
 abbrev pub HaltsBy : (Sort → Bool) → State → Cursor → Fault → Type 0

@@ -6,7 +6,7 @@ ghost use Rattle.grammar.specs.Scanner.{State, Sort, in_term, Stuck, StuckEscape
 use crate::fault::{Fault, FaultKind};
 use grammar::class::{Class, UcharLetters};
 
-// The offset of a byte of the line, or the line's end.
+// The offset of a byte of the line, or the line's end. A literal writes both fields, since `..` is not taken beside a ghost field.
 #[derive(Clone, Copy)]
 pub(crate) struct Cursor<'a> {
     pub line: &'a [u8],
@@ -83,9 +83,10 @@ impl<'a> Cursor<'a> {
             (λ e. (e.line ≡ here.line) × (e.pos ≡ here.pos + 1) × NextIs here b)
             (λ f. Refuses here (here.pos < length here.line.now → slice_index here.line.now here.pos ≢ b) f) }
     {
-        match self.peek() {
-            Some(c) if c == b => Ok(self.advance()),
-            _ => Err(self.stuck()),
+        if self.peek() == Some(b) {
+            Ok(self.advance())
+        } else {
+            Err(self.stuck())
         }
     }
 

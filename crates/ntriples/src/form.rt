@@ -110,14 +110,12 @@ impl<'a> Found<'a> {
 
 impl<'a> Cursor<'a> {
     ghost use Rattle.ntriples.specs.Answers.{kind_of, bytes_of};
-    ghost use Rattle.ntriples.specs.Cursors.{NextIs, Spans, Enters, HaltsBy, first_byte, Opens};
+    ghost use Rattle.ntriples.specs.Cursors.{NextIs, OrFault, Spans, Enters, HaltsBy, first_byte, Opens};
 
     // The term of the form, whose first byte is here.
     pub fn term<F: Form>(self) -> Result<Found<'a>, Fault>
         requires here { NextIs self (first_byte F.kind) }
-        ensures found { let here = self.entry in MatchResult result
-            (λ x. (x.start ≡ here) × Spans (production F.kind) here x.end × (kind_of x.token ≡ F.kind) × (bytes_of x.token ≡ piece here.line.now here.pos x.end.pos))
-            (λ f. f.offset ≤ length here.line.now) }
+        ensures found { let here = self.entry in OrFault here.line.now (λ x. (x.start ≡ here) × Spans (production F.kind) here x.end × (kind_of x.token ≡ F.kind) × (bytes_of x.token ≡ piece here.line.now here.pos x.end.pos)) result }
         ensures goes { (s : State) (n : Next) (t : State) → Opens F.kind n t → Enters s self.entry t → MatchResult result (λ x. Ended s self.entry.line.now x.end.pos n) (λ f. HaltsBy in_term s self.entry f) }
     {
         let end = F::end(self)?;

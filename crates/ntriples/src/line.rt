@@ -13,12 +13,12 @@ use crate::token::{Line, Located, Statement};
 use grammar::class::{Blanks, CommentChars};
 
 impl<'a> Cursor<'a> {
-    ghost use Rattle.ntriples.specs.Cursors.{NextIs, FindsTerm, ScansTerm, Enters, HaltsBy};
+    ghost use Rattle.ntriples.specs.Cursors.{NextIs, OrFault, FindsTerm, ScansTerm, Enters, HaltsBy};
 
     // The comment whose `#` is here, up to the line's end.
     fn comment(self) -> Result<(), Fault>
         requires here { NextIs self 35 }
-        ensures found { let line = self.entry.line.now in MatchResult result (λ _. Is comment (piece line self.entry.pos (length line))) (λ f. f.offset ≤ length line) }
+        ensures found { let line = self.entry.line.now in OrFault line (λ _. Is comment (piece line self.entry.pos (length line))) result }
         ensures goes { (s : State) → Enters s self.entry remark → IfErr result (λ f. HaltsBy in_line s self.entry f) }
     {
         let end = self.advance().past::<CommentChars>();
@@ -30,7 +30,7 @@ impl<'a> Cursor<'a> {
 
     // What may follow the dot, up to the line's end.
     fn rest(self) -> Result<(), Fault>
-        ensures found { let line = self.entry.line.now in MatchResult result (λ _. Is rest (piece line self.entry.pos (length line))) (λ f. f.offset ≤ length line) }
+        ensures found { let line = self.entry.line.now in OrFault line (λ _. Is rest (piece line self.entry.pos (length line))) result }
         ensures goes { (s : State) → Stands s self.entry.line.now self.entry.pos ended → IfErr result (λ f. HaltsBy in_line s self.entry f) }
     {
         let end = self.past::<Blanks>();
@@ -67,7 +67,7 @@ impl<'a> Cursor<'a> {
         }
     }
 
-    // The object, after blanks.
+    // The object, after blanks. It is as the predicate with three forms for one: a function for both would be told the forms.
     fn object(self) -> Result<Found<'a>, Fault>
         ensures found { FindsTerm (object part) self.entry result }
         ensures goes { (s : State) → Ended s self.entry.line.now self.entry.pos thing → ScansTerm s self.entry dot result }
@@ -105,8 +105,8 @@ impl<'a> Cursor<'a> {
     }
 }
 
-// What the line holds; a fault's offset counts from the line's first byte. A struct of `line` and `base` would serve
-// this function and the next alone, so they are two parameters.
+// What the line holds; a fault's offset counts from the line's first byte. `base` stays a parameter: a cursor that carried it
+// would have to keep the bound on it at every step, and only the places that are told need it.
 fn content<'a>(line: &'a [u8], base: usize) -> Result<Line<'a>, Fault>
     requires fits { base + length line.now < 2 ^ 64 }
     ensures { MatchResult result (λ l. Reads base line.now (line_reading l)) (λ f. (f.offset ≤ length line.now) × Halts in_line start line.now f.offset (number f.kind)) }

@@ -9,7 +9,7 @@ use crate::fault::Fault;
 use grammar::class::{Alnums, Class, EscapeLetters, IriChars, LabelChars, Letters, StringChars};
 
 impl<'a> Cursor<'a> {
-    ghost use Rattle.ntriples.specs.Cursors.{NextIs, Finds, Enters, ScansTo};
+    ghost use Rattle.ntriples.specs.Cursors.{NextIs, OrFault, Finds, Enters, ScansTo};
 
     // IRIREF, whose `<` is here.
     pub fn iri(self) -> Result<Cursor<'a>, Fault>
@@ -96,9 +96,7 @@ impl<'a> Cursor<'a> {
 
     // What may follow the string of a literal.
     fn suffix(self) -> Result<Cursor<'a>, Fault>
-        ensures found { let here = self.entry in MatchResult result
-            (λ e. (e.line ≡ here.line) × (here.pos ≤ e.pos) × Is (suffix part) (piece here.line.now here.pos e.pos))
-            (λ f. f.offset ≤ length here.line.now) }
+        ensures found { let here = self.entry in OrFault here.line.now (λ e. (e.line ≡ here.line) × (here.pos ≤ e.pos) × Is (suffix part) (piece here.line.now here.pos e.pos)) result }
         ensures goes { (s : State) → Stands s self.entry.line.now self.entry.pos quoted → ScansTo s self.entry (λ e. Ended s self.entry.line.now e dot) result }
     {
         match self.peek() {

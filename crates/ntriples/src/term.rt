@@ -7,7 +7,7 @@ ghost use Rattle.grammar.specs.Readings.{production};
 use crate::cursor::Cursor;
 use crate::form::{Form, Iri, Literal};
 
-// Whether a term of the form fills the text.
+// Whether a term of the form fills the text. With `==` on the peeked byte the proof no longer closed.
 fn fills<F: Form>(text: &[u8]) -> bool
     ensures yes { result ≡ true → Is (production F.kind) text.now }
     ensures no { result ≡ false → ¬ Is (production F.kind) text.now }

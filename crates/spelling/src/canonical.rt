@@ -51,7 +51,8 @@ pub fn spell(token: Token, out: &mut [u8; LONGEST]) -> Result<Option<usize>, Too
     Ok(Some(writer.store(out)))
 }
 
-// Whether the bytes are the canonical spelling of a token of this kind; the token has the bytes.
+// Whether the bytes are the canonical spelling of a token of this kind; the token has the bytes. With `let .. else` the proof no
+// longer closed.
 fn is_lawful_as(token: Token, bytes: &[u8]) -> bool
     requires same { bytes_of token ≡ bytes.now }
     ensures { MatchBool result (LawfulAs (kind_of token.entry) bytes.now) (¬ LawfulAs (kind_of token.entry) bytes.now) }

@@ -14,7 +14,7 @@ pub(crate) struct Writer {
     len: usize,
 }
 
-// Clauses see the bytes that are written.
+// Clauses see the bytes that are written, and not the invariant, so those that need its bound say it.
 impl Model for Writer {
     ghost use Rattle.std.specs.Prelude.{ℕ, ◌≤◌, List, take};
     ghost use Rattle.spelling.specs.Names.{longest};

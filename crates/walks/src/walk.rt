@@ -1,9 +1,10 @@
-// Walks through a store. Code that goes through the triples of a store asks `next` here or in a step, and nowhere else.
+// Walks through a store. Code that goes through the triples of a store does it by a walk, or by the steps of one.
 ghost use Rattle.std.specs.Prelude.{◌≡◌, ◌-◌};
 ghost use Rattle.std.specs.Iterator.{at_most};
 ghost use Rattle.triples.specs.Codes.{codes};
-ghost use Rattle.walks.specs.Steps.{from_start, WalksOn};
+ghost use Rattle.walks.specs.Steps.{from_start as the_start, WalksOn};
 
+use crate::step::{from_start, past};
 use triples::question::{Pattern, Question};
 use triples::store::TripleStore;
 use triples::triple::Triple;
@@ -19,11 +20,11 @@ impl<'a, S: TripleStore> Walk<'a, S> {
     // The triples that fit the pattern.
     pub fn new(store: &'a S, pattern: Pattern) -> Walk<'a, S>
         ensures over { result.store.now ≡ store.now }
-        ensures whole { result.question ≡ from_start pattern }
+        ensures whole { result.question ≡ the_start pattern }
     {
         Walk {
             store,
-            question: Question { lowest: 0, pattern },
+            question: from_start(pattern),
         }
     }
 }
@@ -37,7 +38,7 @@ impl<'a, S: TripleStore> Iterator for Walk<'a, S> {
 
     fn next(&mut self) -> Option<Triple> {
         let triple = self.store.next(self.question)?;
-        self.question.lowest = triple.code() + 1;
+        self.question = past(triple, self.question.pattern);
         Some(triple)
     }
 }
