@@ -60,8 +60,6 @@ certificates =
     & derivation (rows_start (have (30 ∷ []) #type #Property)) []
     & derivation (rows_start position_rows) []
     & closed_set (given_by_rows [] [])
-    & closed_set (given_by_rows [] [])
-    & closed_set (given_by_rows [] [])
     & closed_set []
     & closed_set (given_by_rows [] [])
     & closed_set (given_by_rows [] [])

@@ -142,15 +142,9 @@ position_10 = iri (codes "<http://www.w3.org/1999/02/22-rdf-syntax-ns#_10>")
 abbrev pub position_rows : List GoalRow
 position_rows = have (30 ∷ []) #type #CMP ++ have (30 ∷ []) #domain #Resource ++ have (30 ∷ []) #range #Resource
 
--- _01, _1a and _: none of them is a container position
+-- _01, which is none
 abbrev zero_first : Term
 zero_first = iri (codes "<http://www.w3.org/1999/02/22-rdf-syntax-ns#_01>")
-
-abbrev letter_last : Term
-letter_last = iri (codes "<http://www.w3.org/1999/02/22-rdf-syntax-ns#_1a>")
-
-abbrev no_digit : Term
-no_digit = iri (codes "<http://www.w3.org/1999/02/22-rdf-syntax-ns#_>")
 
 -- In RDF nothing is a class.
 abbrev some_class : List GoalRow
@@ -187,8 +181,6 @@ examples =
     ∷ with_term Rdf position_10 (have (30 ∷ []) #type #Property) true
     ∷ with_term Rdfs position_10 position_rows true
     ∷ with_term Rdfs zero_first (have (30 ∷ []) #type #CMP) false
-    ∷ with_term Rdfs letter_last (have (30 ∷ []) #type #CMP) false
-    ∷ with_term Rdfs no_digit (have (30 ∷ []) #type #CMP) false
     ∷ nothing_kept Rdf some_class false
     ∷ nothing_kept Rdfs list_and_class false
     ∷ nothing_kept Rdfs property_and_class false
