@@ -1,13 +1,15 @@
 -- A certificate for each example. antt computes that all of them pass, so the examples hold.
 use Rattle.std.proofs.Common.{ℕ, List, [], ◌∷◌, ◌++◌, map}
 use Rattle.triples.specs.declared.triple.Triple.{Triple}
+use Rattle.entailment.specs.declared.goal.GoalRow.{GoalRow}
 use Rattle.entailment.specs.declared.regime.Row.TheVariants.{Rdfs2, Rdfs3, Rdfs7, Rdfs11}
 use Rattle.entailment.specs.Terms.{rdf, rdfs, thirty}
 use Rattle.entailment.specs.Vocabulary.{#type, #Property, #List, #Statement, #subject, #predicate, #object, #first, #rest, #value, #Seq, #Bag, #Alt, #position_1, #Resource, #Class, #Literal, #Datatype, #Container, #CMP, #domain, #range, #subClassOf, #subPropertyOf, #member, #seeAlso, #isDefinedBy, #comment, #label}
 use Rattle.entailment.specs.Rows.{triple}
 use Rattle.entailment.specs.Starts.{each}
-use Rattle.entailment.specs.Examples.{examples, ExamplesHold}
-use Rattle.entailment.proofs.Lines.{from_start, from_kept, by_row}
+use Rattle.entailment.specs.Entailment.{put}
+use Rattle.entailment.specs.Examples.{have, rdf_table, rdfs_table, position_rows, examples, ExamplesHold}
+use Rattle.entailment.proofs.Lines.{Line, from_start, from_kept, by_row}
 use Rattle.entailment.proofs.Certificates.{Certificates, derivation, closed_set, all_hold}
 
 -- the properties and the classes of the RDFS closure where nothing is kept
@@ -30,6 +32,10 @@ given_by_rows ps cs =
     ++ (each #subClassOf #Resource (classes ++ cs)
     ++ each #subPropertyOf #member (#position_1 ∷ [])))))
 
+-- each row of a goal, which has no blanks, is a triple of the start set
+abbrev rows_start : List GoalRow → List Line
+rows_start g = map (λ r. from_start (put (λ k. 0) r)) g
+
 -- a certificate, and those of the examples after it
 infixr 30 ◌&◌
 abbrev ◌&◌ : {A B : Type 0} → A → B → A × B
@@ -48,6 +54,16 @@ certificates =
     & derivation (from_start (triple #position_1 #type #CMP) ∷ []) (#position_1 ∷ [])
     & closed_set []
     & derivation [] []
+    & derivation (from_kept (triple 30 31 32) ∷ []) []
+    & derivation (rows_start rdf_table) []
+    & derivation (rows_start rdfs_table) []
+    & derivation (rows_start (have (30 ∷ []) #type #Property)) []
+    & derivation (rows_start position_rows) []
+    & closed_set (given_by_rows [] [])
+    & closed_set []
+    & closed_set (given_by_rows [] [])
+    & closed_set (given_by_rows [] [])
+    & closed_set (given_by_rows [] [])
     & tt
 
 pub examples_hold : ExamplesHold

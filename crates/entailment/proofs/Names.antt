@@ -17,7 +17,7 @@ Named ts t = T (is_name ts t.subject) × T (is_name ts t.predicate) × T (is_nam
 
 pub position-named : (t : Term) → T (position t) → T (named t)
 position-named (iri b) h = tt
-position-named (literal b) h = tt
+position-named (literal b) h = absurd h
 position-named blank h = h
 
 -- what where_from finds passes each weaker test

@@ -7,3 +7,4 @@ pub mod Worlds
 pub mod Entailment
 pub mod Laws
 pub mod Examples
+pub mod Numbers

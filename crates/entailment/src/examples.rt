@@ -2,7 +2,7 @@
 // specs/Examples, a verdict.
 ghost use Rattle.entailment.specs.Examples.{ExamplesHold};
 
-// The examples of the halls have the verdicts that the reference gives them.
+// The examples of the halls have the verdicts that the reference gives them, and those on the start sets have theirs.
 pub fn examples_hold()
     ensures { ExamplesHold }
 {}
