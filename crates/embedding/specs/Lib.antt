@@ -1,0 +1,5 @@
+pub mod Kinds
+pub mod Embeddings
+pub mod Deciding
+pub mod Bound
+pub mod Searching
