@@ -2,10 +2,16 @@
 use Rattle.std.proofs.Common.{◌≡◌, ℕ, zero, suc, ◌-◌, ◌<◌, ◌≤◌, Bool, true, false, cond, ◌||◌, eqb, List, [], ◌∷◌, length, get_or, take, drop, set, reverse, Some, None, refl, sym, ap, ◌∙◌, ⊎_elim, arith}
 use Rattle.std.specs.List.{AllByRecursion, IsDistinct, list_any}
 use Rattle.std.proofs.lemmas.Bool.{cases_Bool, eq-eqb, eqb-true, eqb-false, or_cases, or_right, false≢true}
-use Rattle.std.proofs.lemmas.List.{get_or-set_same, get_or-set_other, drop-map}
+use Rattle.std.proofs.lemmas.List.{length-take-le, length-reverse, take-append-drop, take_all, get_or-set_same, get_or-set_other, drop-map}
 use Rattle.std.proofs.lemmas.List.Sorted.{IsPermutation-reverse, list_any-IsPermutation}
+use Rattle.std.proofs.lemmas.List.Folds.{list_any-append}
 use Rattle.std.proofs.lemmas.Map.Steps.{length-le_from_distinct_below}
-use Rattle.embedding.specs.Bound.{lookup, bound, IsSound}
+use Rattle.stacks.proofs.Tops.{pile-cut}
+use Rattle.embedding.specs.Bound.{Bound, lowest, lookup, bound, IsSound}
+
+or_false : (b : Bool) → (b || false) ≡ b
+or_false true = refl
+or_false false = refl
 
 -- the goal blank k is on the stack
 abbrev pub on : List ℕ → ℕ → Bool
@@ -96,6 +102,24 @@ pub looked : (terms xs ys : List ℕ) (n k : ℕ) (b : Bool) → ys ≡ take n x
 looked terms xs ys n k b e h =
     lookup-bound terms (reverse (take n xs)) k
     ∙ ap (λ c. cond c (Some (get_or terms k 0)) None) (on-reverse (take n xs) k ∙ ap (λ (l : List ℕ). on l k) (sym e) ∙ sym h)
+
+-- a goal blank that is not in the slots past the lowest m
+pub looked_since : (terms xs ys : List ℕ) (n m k : ℕ) → n ≤ length xs → m ≤ length (bound terms (reverse (take n xs))) → ys ≡ drop m (take n xs) → on ys k ≡ false
+    → lookup (bound terms (reverse (take n xs))) k ≡ lookup (lowest m (bound terms (reverse (take n xs)))) k
+looked_since terms xs ys n m k le low e h =
+    let zs : List ℕ = take n xs in
+    let all : length zs ≡ n = length-take-le n xs le in
+    let more : m ≤ length zs = omega (arith, low, length-bound terms (reverse zs), length-reverse zs) in
+    let parts : on zs k ≡ (on (take m zs) k || on (drop m zs) k) = ap (λ (l : List ℕ). on l k) (sym (take-append-drop m zs)) ∙ list_any-append (λ j. eqb j k) (take m zs) (drop m zs) in
+    let off : on (drop m zs) k ≡ false = ap (λ (l : List ℕ). on l k) (sym e) ∙ h in
+    let same : on zs k ≡ on (take m zs) k = parts ∙ ap (λ b. on (take m zs) k || b) off ∙ or_false (on (take m zs) k) in
+    let cut : drop (length (reverse zs) - m) (reverse zs) ≡ reverse (take m zs) =
+    ap (λ (l : List ℕ). drop (length (reverse l) - m) (reverse l)) (sym (take_all (length zs) zs (omega arith))) ∙ sym (pile-cut zs m (length zs) more (omega arith)) in
+    lookup-bound terms (reverse zs) k
+    ∙ ap (λ b. cond b (Some (get_or terms k 0)) None) (on-reverse zs k ∙ same ∙ sym (on-reverse (take m zs) k))
+    ∙ sym (lookup-bound terms (reverse (take m zs)) k)
+    ∙ ap (λ (l : List ℕ). lookup (bound terms l) k) (sym cut)
+    ∙ ap (λ (bs : Bound). lookup bs k) (bound-cut terms m (reverse zs))
 
 pub low_if_on : (slots ks : List ℕ) (k : ℕ) → IsSound slots ks → on ks k ≡ true → k < 8
 low_if_on slots ks k s h = below_eight k ks s.small (flipped ks h)

@@ -8,11 +8,10 @@ use Rattle.entailment.specs.declared.goal.Position.TheVariants.{Name}
 use Rattle.entailment.specs.declared.goal.GoalRow.{GoalRow}
 use Rattle.embedding.specs.declared.search.Choice.{Choice}
 use Rattle.embedding.specs.Embeddings.{InRow, Absent}
-use Rattle.embedding.specs.Bound.{Bound, unify}
+use Rattle.embedding.specs.Bound.{Bound, unify, lowest}
 use Rattle.embedding.specs.Searching.{Agrees, row_at, Hopeful}
 use Rattle.embedding.proofs.Unifying.{Of, Unified, makes, unified, cut_back}
 use Rattle.embedding.proofs.Openness.{open_rows, open_rows_less, is_closed}
-use Rattle.embedding.proofs.Remaining.{lowest}
 use Rattle.embedding.proofs.Standing.{Stands, Path, Beyond, Ready, Going}
 use Rattle.embedding.proofs.Turns.{current_below, this_or_later}
 

@@ -1,17 +1,13 @@
 -- A number that falls at every turn of the search: the codes that are still to be tried, weighted by how many rows are open.
-use Rattle.std.proofs.Common.{◌≡◌, ℕ, zero, suc, ◌+◌, ◌-◌, ◌*◌, ◌<◌, ◌≤◌, List, [], ◌∷◌, length, drop, Some, None, Option, ap, ◌∙◌, arith}
+use Rattle.std.proofs.Common.{◌≡◌, ℕ, zero, suc, ◌+◌, ◌-◌, ◌*◌, ◌<◌, ◌≤◌, List, [], ◌∷◌, Some, None, Option, ap, ◌∙◌, arith}
 use Rattle.std.proofs.Math.Nat.{mul-le-mul_right}
 use Rattle.triples.specs.declared.triple.Triple.{Triple}
 use Rattle.triples.specs.Codes.{codes, code_of}
 use Rattle.entailment.specs.declared.goal.GoalRow.{GoalRow}
 use Rattle.embedding.specs.declared.search.Choice.{Choice}
 use Rattle.embedding.specs.declared.search.Place.{Place}
-use Rattle.embedding.specs.Bound.{Bound}
+use Rattle.embedding.specs.Bound.{Bound, lowest}
 use Rattle.embedding.proofs.Openness.{open_rows}
-
--- the lowest n of the bindings
-abbrev pub lowest : ℕ → Bound → Bound
-lowest n bs = drop (length bs - n) bs
 
 -- more than what fewer open rows count
 unfoldable pub weight : ℕ → ℕ

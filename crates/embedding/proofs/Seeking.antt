@@ -11,10 +11,10 @@ use Rattle.entailment.specs.Entailment.{put}
 use Rattle.embedding.specs.declared.search.Choice.{Choice}
 use Rattle.embedding.specs.declared.search.Place.{Place}
 use Rattle.embedding.specs.Embeddings.{PutsRows}
-use Rattle.embedding.specs.Bound.{Bound, pattern, unify}
+use Rattle.embedding.specs.Bound.{Bound, pattern, unify, lowest}
 use Rattle.embedding.specs.Searching.{Agrees, row_at, Hopeful, Keeps, Places}
 use Rattle.embedding.proofs.Openness.{some_open}
-use Rattle.embedding.proofs.Remaining.{lowest, left_at, left_past, left_on, left_none, left_back}
+use Rattle.embedding.proofs.Remaining.{left_at, left_past, left_on, left_none, left_back}
 use Rattle.embedding.proofs.Standing.{State, Going, Ready}
 use Rattle.embedding.proofs.Turns.{going, begin, arrive, kept, back, stuck, on, current_below, next_later}
 use Rattle.embedding.proofs.Choosing.{choose, chosen_less, chosen_cut}

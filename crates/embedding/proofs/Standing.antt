@@ -8,10 +8,9 @@ use Rattle.entailment.specs.Entailment.{put}
 use Rattle.embedding.specs.declared.search.Choice.{Choice}
 use Rattle.embedding.specs.declared.search.Place.{Place}
 use Rattle.embedding.specs.Embeddings.{PutsRows}
-use Rattle.embedding.specs.Bound.{Bound}
+use Rattle.embedding.specs.Bound.{Bound, lowest}
 use Rattle.embedding.specs.Searching.{Agrees, row_at, Hopeful, IsClosed, Sourced, Complete}
 use Rattle.embedding.proofs.Openness.{open_rows}
-use Rattle.embedding.proofs.Remaining.{lowest}
 
 -- terms are the numbers below n
 module _ (n : ℕ) (set : Graph) (goal : List GoalRow) where

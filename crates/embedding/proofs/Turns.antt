@@ -13,12 +13,12 @@ use Rattle.entailment.specs.Entailment.{put}
 use Rattle.embedding.specs.declared.search.Choice.{Choice}
 use Rattle.embedding.specs.declared.search.Place.{Place}
 use Rattle.embedding.specs.Embeddings.{PutsRows}
-use Rattle.embedding.specs.Bound.{Bound, pattern}
+use Rattle.embedding.specs.Bound.{Bound, pattern, lowest}
 use Rattle.embedding.specs.Searching.{Agrees, row_at, Hopeful, Parted, Keeps, Places}
 use Rattle.embedding.proofs.Meeting.{some_only, none_some}
 use Rattle.embedding.proofs.Fitting.{held_at, fits_row, mixed, mixed_agrees, mixed_rows}
 use Rattle.embedding.proofs.Openness.{open_rows_le}
-use Rattle.embedding.proofs.Remaining.{lowest, Later}
+use Rattle.embedding.proofs.Remaining.{Later}
 use Rattle.embedding.proofs.Standing.{Stands, Reaches, Ready, Going, State}
 
 -- what next answers is held

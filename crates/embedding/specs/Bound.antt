@@ -1,6 +1,6 @@
 -- An inner device: goal blanks with the terms to which they are bound, the last first, and what becomes of them when a row
 -- is to be a triple.
-use Rattle.std.specs.Prelude.{◌≡◌, ℕ, ◌<◌, ◌≤◌, Bool, true, false, cond, ◌==◌, eqb, List, [], ◌∷◌, ◌++◌, length, map, Some, None, Option, slice_index_or}
+use Rattle.std.specs.Prelude.{◌≡◌, ℕ, ◌<◌, ◌≤◌, Bool, true, false, cond, ◌==◌, eqb, List, [], ◌∷◌, ◌++◌, ◌-◌, length, drop, map, Some, None, Option, slice_index_or}
 use Rattle.std.specs.List.{AllByRecursion, IsDistinct}
 use Rattle.triples.specs.declared.triple.Triple.{Triple}
 use Rattle.triples.specs.declared.question.Pattern.{Pattern}
@@ -16,6 +16,10 @@ Bound = List (ℕ × ℕ)
 abbrev pub lookup : Bound → ℕ → Option ℕ
 lookup [] k = None
 lookup (p ∷ bs) k = cond (p.0 == k) (Some p.1) (lookup bs k)
+
+-- the lowest n
+abbrev pub lowest : ℕ → Bound → Bound
+lowest n bs = drop (length bs - n) bs
 
 -- the goal blanks on a stack with their terms
 abbrev pub bound : List ℕ → List ℕ → Bound

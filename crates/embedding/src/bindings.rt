@@ -1,6 +1,7 @@
 // The terms to which goal blanks are bound.
 ghost use Rattle.std.specs.Prelude.{◌≡◌, ◌-◌, ◌<◌, ◌≤◌, List, [], ◌∷◌, length, drop, None};
-ghost use Rattle.embedding.specs.Bound.{lookup};
+ghost use Rattle.std.specs.Bool.{OnFalse};
+ghost use Rattle.embedding.specs.Bound.{lookup, lowest};
 
 use stacks::Stack;
 use std::marker::Model;
@@ -53,6 +54,14 @@ impl<'a> Bindings<'a> {
         }
     }
 
+    // Whether a goal blank is not among the lowest `mark` that are bound.
+    pub(crate) fn is_bound_since(&self, mark: usize, blank: u8) -> bool
+        requires { mark ≤ length self.now }
+        ensures { OnFalse result (lookup self.now blank ≡ lookup (lowest mark self.now) blank) }
+    {
+        self.blanks.as_slice()[mark..].contains(&blank)
+    }
+
     pub(crate) fn bind(&mut self, blank: u8, term: u8)
         requires { (blank < 8) × (lookup self.old blank ≡ None) }
         ensures { self.new ≡ (blank, term) ∷ self.old }
@@ -65,7 +74,7 @@ impl<'a> Bindings<'a> {
     }
 
     pub(crate) fn truncate(&mut self, n: usize)
-        ensures { self.new ≡ drop (length self.old - n) self.old }
+        ensures { self.new ≡ lowest n self.old }
     {
         self.blanks.truncate(n);
     }
