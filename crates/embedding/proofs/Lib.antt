@@ -10,3 +10,5 @@ pub mod Turns
 pub mod Choosing
 pub mod Seeking
 pub mod Finding
+pub mod InTerms
+pub mod NamedRows

@@ -5,6 +5,7 @@
 mod bindings;
 pub mod deciding;
 pub mod kind;
+pub mod laws;
 mod prospects;
 mod rows;
 pub mod search;
