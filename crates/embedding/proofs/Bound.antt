@@ -6,7 +6,7 @@ use Rattle.std.proofs.lemmas.List.{length-take-le, length-reverse, take-append-d
 use Rattle.std.proofs.lemmas.List.Sorted.{IsPermutation-reverse, list_any-IsPermutation}
 use Rattle.std.proofs.lemmas.List.Folds.{list_any-append}
 use Rattle.std.proofs.lemmas.Map.Steps.{length-le_from_distinct_below}
-use Rattle.stacks.proofs.Tops.{pile-cut}
+use Rattle.stacks.proofs.Tops.{pile_cut}
 use Rattle.embedding.specs.Bound.{Bound, lowest, lookup, bound, IsSound}
 
 or_false : (b : Bool) → (b || false) ≡ b
@@ -114,7 +114,7 @@ looked_since terms xs ys n m k le low e h =
     let off : on (drop m zs) k ≡ false = ap (λ (l : List ℕ). on l k) (sym e) ∙ h in
     let same : on zs k ≡ on (take m zs) k = parts ∙ ap (λ b. on (take m zs) k || b) off ∙ or_false (on (take m zs) k) in
     let cut : drop (length (reverse zs) - m) (reverse zs) ≡ reverse (take m zs) =
-    ap (λ (l : List ℕ). drop (length (reverse l) - m) (reverse l)) (sym (take_all (length zs) zs (omega arith))) ∙ sym (pile-cut zs m (length zs) more (omega arith)) in
+    ap (λ (l : List ℕ). drop (length (reverse l) - m) (reverse l)) (sym (take_all (length zs) zs (omega arith))) ∙ sym (pile_cut zs m (length zs) more (omega arith)) in
     lookup-bound terms (reverse zs) k
     ∙ ap (λ b. cond b (Some (get_or terms k 0)) None) (on-reverse zs k ∙ same ∙ sym (on-reverse (take m zs) k))
     ∙ sym (lookup-bound terms (reverse (take m zs)) k)

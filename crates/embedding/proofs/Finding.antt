@@ -25,7 +25,7 @@ not_past k past r small here =
 past_absent : (k : ℕ) → 8 ≤ k → (goal : List GoalRow) → AllByRecursion SmallRow goal → Absent k goal
 past_absent k past goal small = All-weaker SmallRow (λ r. InRow k r → ⊥) (not_past k past) goal small
 
-module _ (n : ℕ) (set : Graph) (goal : List GoalRow) (bs : Bound) (small : AllByRecursion SmallRow goal) (done : Complete n set goal bs) (some : 0 < n) (was is : List ℕ) (room : 8 ≤ length was) (w : Written bs 8 was is) where
+module _ (n : ℕ) (set : Graph) (goal : List GoalRow) (bs : Bound) (small : AllByRecursion SmallRow goal) (some : 0 < n) (done : Complete n set goal bs) (was is : List ℕ) (room : 8 ≤ length was) (w : Written bs 8 was is) where
   abbrev map : ℕ → ℕ
   map k = get_or (take 8 is) k 0
 

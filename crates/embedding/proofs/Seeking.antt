@@ -12,7 +12,7 @@ use Rattle.embedding.specs.declared.search.Choice.{Choice}
 use Rattle.embedding.specs.declared.search.Place.{Place}
 use Rattle.embedding.specs.Embeddings.{PutsRows}
 use Rattle.embedding.specs.Bound.{Bound, pattern, unify, lowest}
-use Rattle.embedding.specs.Searching.{Agrees, row_at, Hopeful, Keeps, Places}
+use Rattle.embedding.specs.Searching.{Agrees, row_at, Hopeful, Keeps, Places, Advances}
 use Rattle.embedding.proofs.Openness.{some_open}
 use Rattle.embedding.proofs.Remaining.{left_at, left_past, left_on, left_none, left_back}
 use Rattle.embedding.proofs.Standing.{State, Going, Ready}
@@ -47,16 +47,22 @@ module _ (n : ℕ) (set : Graph) (goal : List GoalRow) (bs : Bound) (cs : List C
       stuck n set goal bs p.row (subst (λ (ds : List Choice). Going n set goal bs ds p.row None) none g)
 
   -- no candidate is left, and the last choice is taken back
-  pub turn_back : p.candidate ≡ None → (c : Choice) (ds : List Choice) → cs ≡ c ∷ ds → (es : Bound) → es ≡ lowest c.mark bs → (q : Pattern) → q ≡ pattern es (row_at goal c.row) → (o : Option Triple) → Next set (past c.triple q) o
-      → Going n set goal es ds c.row o × (left_at goal es ds (Some (record { row = c.row; candidate = o })) < left_at goal bs cs place)
-  turn_back e c ds more es cut q asks o next =
+  pub turn_back : p.candidate ≡ None → (c : Choice) (ds : List Choice) → cs ≡ c ∷ ds → (es : Bound) → es ≡ lowest c.mark bs → (q : Place) → q.row ≡ c.row → Next set (past c.triple (pattern es (row_at goal c.row))) q.candidate
+      → Going n set goal es ds q.row q.candidate × (left_at goal es ds (Some q) < left_at goal bs cs place)
+  turn_back e c ds more es cut q row next =
       let g = subst (λ (ks : List Choice). Going n set goal bs ks p.row None) more (going n set goal bs cs place p None at e s) in
-      let to : Next set (past c.triple (pattern (lowest c.mark bs) (row_at goal c.row))) o =
-      subst (λ (x : Pattern). Next set (past c.triple x) o) (asks ∙ ap (λ (x : Bound). pattern x (row_at goal c.row)) cut) next in
-      let less = left_back goal bs c ds p.row o g.path.0 (next_later set c.triple (row_at goal c.row) (lowest c.mark bs) o to) in
+      let to : Next set (past c.triple (pattern (lowest c.mark bs) (row_at goal c.row))) q.candidate =
+      subst (λ (x : Bound). Next set (past c.triple (pattern x (row_at goal c.row))) q.candidate) cut next in
+      let less = left_back goal bs c ds p.row q.candidate g.path.0 (next_later set c.triple (row_at goal c.row) (lowest c.mark bs) q.candidate to) in
       let was : left_at goal bs cs place ≡ left_at goal bs (c ∷ ds) (tried None) = left_same None e ∙ ap (λ (ks : List Choice). left_at goal bs ks (tried None)) more in (
-        subst (λ (x : Bound). Going n set goal x ds c.row o) (sym cut) (back n set goal bs c ds p.row o g to),
-        omega (arith, was, ap (λ (x : Bound). left_at goal x ds (Some (record { row = c.row; candidate = o }))) cut, less),
+        subst (λ (i : ℕ). Going n set goal es ds i q.candidate) (sym row) (subst (λ (x : Bound). Going n set goal x ds c.row q.candidate) (sym cut) (back n set goal bs c ds p.row q.candidate g to)),
+        omega (
+          arith,
+          was,
+          ap (λ (x : Bound). left_at goal x ds (Some (record { row = c.row; candidate = q.candidate }))) cut,
+          ap (λ (i : ℕ). left_at goal es ds (Some (record { row = i; candidate = q.candidate }))) row,
+          less,
+        ),
       )
 
   module _ (lawful : (t : Triple) → set t ≡ true → Inside n t) (narrow : n ≤ width) (t : Triple) (e : p.candidate ≡ Some t) (es : Bound) where
@@ -89,3 +95,14 @@ module _ (n : ℕ) (set : Graph) (goal : List GoalRow) (bs : Bound) (cs : List C
         (λ d. subst (λ (ks : List Choice). left_at goal es ks next < left_at goal bs cs (tried (Some t))) (sym d.0) (left_none goal bs cs p.row t low es next fewer))
         keeps in
         (arrive n set goal es ds next ready places, omega (arith, left_same (Some t) e, less))
+
+    -- either way
+    pub turn_advance : (ds : List Choice) (next : Option Place) → Advances set goal p.row t bs cs es ds next → State n set goal es ds next × (left_at goal es ds next < left_at goal bs cs place)
+    turn_advance ds next a =
+        ⊎_elim
+        (λ q.
+        let to = turn_on q.bindings q.fails (pattern es (row_at goal p.row)) refl q.candidate q.next in
+        subst (λ (x : Option Place). State n set goal es ds x × (left_at goal es ds x < left_at goal bs cs place)) (sym q.place)
+        (subst (λ (ks : List Choice). Going n set goal es ks p.row q.candidate × (left_at goal es ks (tried q.candidate) < left_at goal bs cs place)) (sym q.choices) to))
+        (λ q. turn_in q.unified q.hopeful (length bs) refl ds q.kept next q.places)
+        a

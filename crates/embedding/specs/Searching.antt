@@ -5,14 +5,14 @@ use Rattle.triples.specs.declared.triple.Triple.{Triple}
 use Rattle.triples.specs.declared.question.Pattern.{Pattern}
 use Rattle.triples.specs.Sets.{Graph}
 use Rattle.triples.specs.Questions.{Fits, Next}
-use Rattle.walks.specs.Steps.{from_start}
+use Rattle.walks.specs.Steps.{from_start, past}
 use Rattle.entailment.specs.declared.goal.Position.{Position}
 use Rattle.entailment.specs.declared.goal.Position.TheVariants.{Name, Blank}
 use Rattle.entailment.specs.declared.goal.GoalRow.{GoalRow}
 use Rattle.entailment.specs.Entailment.{put}
 use Rattle.embedding.specs.declared.search.Choice.{Choice}
 use Rattle.embedding.specs.declared.search.Place.{Place}
-use Rattle.embedding.specs.Embeddings.{PutsRows, Absent}
+use Rattle.embedding.specs.Embeddings.{PutsRows, EmbedsBelow, Absent}
 use Rattle.embedding.specs.Bound.{Bound, lookup, pattern, unify}
 
 -- m gives each goal blank that is bound its term
@@ -87,6 +87,25 @@ Parted goal bs = AllByRecursion (λ r. IsClosed bs r ⊎ Apart bs r) goal
 abbrev pub Keeps : List GoalRow → Bound → Choice → List Choice → List Choice → Type 0
 Keeps goal bs c cs ds = (ds ≡ c ∷ cs) ⊎ ((ds ≡ []) × Parted goal bs)
 
+-- where the row i cannot be the triple t: nothing changes, and the row's next triple is the candidate
+pub record Passes (set : Graph) (goal : List GoalRow) (i : ℕ) (t : Triple) (bs : Bound) (cs : List Choice) (es : Bound) (ds : List Choice) (p : Option Place) : Type 0 where
+  pub bindings : es ≡ bs
+  pub choices : ds ≡ cs
+  pub fails : (m : ℕ → ℕ) → Agrees bs m → PutsRows set goal m → put m (row_at goal i) ≡ t → ⊥
+  pub candidate : Option Triple
+  pub place : p ≡ Some (record { row = i; candidate = candidate })
+  pub next : Next set (past t (pattern es (row_at goal i))) candidate
+
+-- where it can: its goal blanks are bound, the choice is kept, and another row is next
+pub record Takes (set : Graph) (goal : List GoalRow) (i : ℕ) (t : Triple) (bs : Bound) (cs : List Choice) (es : Bound) (ds : List Choice) (p : Option Place) : Type 0 where
+  pub unified : unify (row_at goal i) t bs ≡ Some es
+  pub hopeful : Hopeful set goal es
+  pub kept : Keeps goal es (record { row = i; triple = t; mark = length bs }) cs ds
+  pub places : Places set goal es p
+
+abbrev pub Advances : Graph → List GoalRow → ℕ → Triple → Bound → List Choice → Bound → List Choice → Option Place → Type 0
+Advances set goal i t bs cs es ds p = Passes set goal i t bs cs es ds p ⊎ Takes set goal i t bs cs es ds p
+
 -- each goal blank that is bound stands in the goal, and its term is below n
 abbrev pub Sourced : ℕ → List GoalRow → Bound → Type 0
 Sourced n goal bs = (k w : ℕ) → lookup bs k ≡ Some w → (w < n) × (Absent k goal → ⊥)
@@ -99,8 +118,8 @@ pub record Complete (n : ℕ) (set : Graph) (goal : List GoalRow) (bs : Bound) :
 
 -- what the search comes to
 abbrev pub Sought : ℕ → Graph → List GoalRow → Bound → Bool → Type 0
-Sought n set goal bs true = Complete n set goal bs
-Sought n set goal bs false = (m : ℕ → ℕ) → PutsRows set goal m → ⊥
+Sought n set goal bs true = (0 < n) × Complete n set goal bs
+Sought n set goal bs false = EmbedsBelow n set goal → ⊥
 
 -- the first j bytes of `is`, which was `was`, are the terms of the goal blanks, or 0
 pub record Written (bs : Bound) (j : ℕ) (was is : List ℕ) : Type 0 where

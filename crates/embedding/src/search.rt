@@ -3,9 +3,11 @@
 ghost use Rattle.std.specs.Prelude.{◌≡◌, ◌<◌, ◌≤◌, [], length};
 ghost use Rattle.std.specs.List.{AllByRecursion};
 ghost use Rattle.stacks.specs.Piles.{pile};
-ghost use Rattle.embedding.specs.Bound.{SmallRow};
+ghost use Rattle.triples.specs.Questions.{Next};
+ghost use Rattle.walks.specs.Steps.{past};
+ghost use Rattle.embedding.specs.Bound.{SmallRow, lowest, pattern as pattern_of};
 ghost use Rattle.embedding.specs.Deciding.{Decided};
-ghost use Rattle.embedding.specs.Searching.{Places, Keeps, Sought, Written};
+ghost use Rattle.embedding.specs.Searching.{row_at, Hopeful, Advances, Places, Keeps, Sought, Written};
 
 use crate::bindings::Bindings;
 use crate::kind::GOAL_BLANKS;
@@ -80,6 +82,50 @@ fn keep(choice: Choice, goal: &[GoalRow], bindings: &Bindings, choices: &mut Sta
     }
 }
 
+// The row of a choice again, with the next triple for it, under the bindings that there were before.
+fn take_back<S: TripleStore>(
+    store: &S,
+    goal: &[GoalRow],
+    choice: Choice,
+    bindings: &mut Bindings,
+) -> Place
+    requires { choice.row < length goal.now }
+    ensures bindings { bindings.new ≡ lowest choice.mark bindings.old }
+    ensures row { result.row ≡ choice.row }
+    ensures candidate { Next (S.TripleStore.held store.now) (past choice.triple (pattern_of bindings.new (row_at goal.now choice.row))) result.candidate }
+{
+    bindings.truncate(choice.mark);
+    Place {
+        row: choice.row,
+        candidate: after(store, pattern(goal[choice.row], bindings), choice.triple),
+    }
+}
+
+// Makes the row its candidate and goes on to the next row, or to the next triple for the row.
+fn advance<S: TripleStore>(
+    store: &S,
+    goal: &[GoalRow],
+    row: usize,
+    triple: Triple,
+    bindings: &mut Bindings,
+    choices: &mut Stack<Choice>,
+) -> Option<Place>
+    requires small { AllByRecursion SmallRow goal.now }
+    requires row { row < length goal.now }
+    requires hopeful { Hopeful (S.TripleStore.held store.now) goal.now bindings.old }
+    requires room { length (pile choices.old.len choices.old.slots.now) < length choices.old.slots.now }
+    ensures room { length choices.new.slots.now ≡ length choices.old.slots.now }
+    ensures advances { Advances (S.TripleStore.held store.now) goal.now row triple bindings.old (pile choices.old.len choices.old.slots.now) bindings.new (pile choices.new.len choices.new.slots.now) result }
+{
+    let mark = bindings.len();
+    if !try_triple(store, goal, goal[row], triple, bindings) {
+        let candidate = after(store, pattern(goal[row], bindings), triple);
+        return Some(Place { row, candidate });
+    }
+    keep(Choice { row, triple, mark }, goal, bindings, choices);
+    next_place(store, goal, bindings)
+}
+
 // Binds the goal blanks so that every row is a triple of the store, if that can be. The last choice is taken back where no
 // triple is left for a row.
 fn seek<S: TripleStore>(
@@ -98,26 +144,14 @@ fn seek<S: TripleStore>(
     }
     let mut place = next_place(store, goal, bindings);
     while let Some(Place { row, candidate }) = place {
-        match candidate {
-            Some(triple) => {
-                let mark = bindings.len();
-                if try_triple(store, goal, goal[row], triple, bindings) {
-                    keep(Choice { row, triple, mark }, goal, bindings, choices);
-                    place = next_place(store, goal, bindings);
-                } else {
-                    let candidate = after(store, pattern(goal[row], bindings), triple);
-                    place = Some(Place { row, candidate });
-                }
-            }
+        place = match candidate {
+            Some(triple) => advance(store, goal, row, triple, bindings, choices),
             None => match choices.pop() {
-                Some(Choice { row, triple, mark }) => {
-                    bindings.truncate(mark);
-                    let candidate = after(store, pattern(goal[row], bindings), triple);
-                    place = Some(Place { row, candidate });
-                }
+                Some(choice) => Some(take_back(store, goal, choice, bindings)),
+                #[tactic(auto, using(crate::proofs::Seeking::turn_out))]
                 None => return false,
             },
-        }
+        };
     }
     true
 }

@@ -10,8 +10,8 @@ module _ {A : Type 0} (xs : List A) where
   pub pile-read : (n : ℕ) (d : A) → n < length xs → pile (n + 1) xs ≡ get_or xs n d ∷ pile n xs
   pile-read n d lt = ap reverse (take_more xs n d lt) ∙ reverse-append (take n xs) (get_or xs n d ∷ [])
 
-  pub pile-top : (n : ℕ) (d : A) → 0 < n → n ≤ length xs → pile n xs ≡ get_or xs (n - 1) d ∷ pile (n - 1) xs
-  pile-top n d pos le =
+  pub pile_top : (n : ℕ) (d : A) → 0 < n → n ≤ length xs → pile n xs ≡ get_or xs (n - 1) d ∷ pile (n - 1) xs
+  pile_top n d pos le =
       let e : n ≡ n - 1 + 1 = omega arith in
       ap (λ (k : ℕ). pile k xs) e ∙ pile-read (n - 1) d (omega arith)
 
@@ -28,8 +28,8 @@ drop-pile (x ∷ xs) n (suc k) le =
     ∙ ap (drop (suc k)) (pile-read (x ∷ xs) (n + k) x (omega arith))
     ∙ drop-pile (x ∷ xs) n k (omega arith)
 
-pub pile-cut : {A : Type 0} (xs : List A) (n m : ℕ) → n ≤ m → m ≤ length xs → pile n xs ≡ drop (length (pile m xs) - n) (pile m xs)
-pile-cut xs n m le within =
+pub pile_cut : {A : Type 0} (xs : List A) (n m : ℕ) → n ≤ m → m ≤ length xs → pile n xs ≡ drop (length (pile m xs) - n) (pile m xs)
+pile_cut xs n m le within =
     let e : m ≡ n + (m - n) = omega arith in
     sym (drop-pile xs n (m - n) (omega arith))
     ∙ ap (λ (j : ℕ). drop (m - n) (pile j xs)) (sym e)

@@ -30,7 +30,7 @@ impl<'a, T: Copy> Stack<'a, T> {
     pub fn len(&self) -> usize
         ensures { result ≡ length (pile self.now.len self.now.slots.now) }
     {
-        self.len
+        self.as_slice().len()
     }
 
     // The elements, the lowest first.
@@ -41,6 +41,7 @@ impl<'a, T: Copy> Stack<'a, T> {
     }
 
     // The element on top; none where the stack is empty.
+    #[tactic(auto, using(crate::proofs::Tops::pile_top))]
     pub fn top(&self) -> Option<T>
         ensures { Tops (pile self.now.len self.now.slots.now) result }
     {
@@ -65,6 +66,7 @@ impl<'a, T: Copy> Stack<'a, T> {
     }
 
     // Takes the element on top off; none where the stack is empty.
+    #[tactic(auto, using(crate::proofs::Tops::pile_top))]
     pub fn pop(&mut self) -> Option<T>
         ensures slots { self.new.slots.now ≡ self.old.slots.now }
         ensures pops { Pops (pile self.old.len self.old.slots.now) (pile self.new.len self.new.slots.now) result }
@@ -77,6 +79,7 @@ impl<'a, T: Copy> Stack<'a, T> {
     }
 
     // Takes elements off until `n` are left, or none where there are no more than that.
+    #[tactic(auto, using(crate::proofs::Tops::pile_cut))]
     pub fn truncate(&mut self, n: usize)
         ensures slots { self.new.slots.now ≡ self.old.slots.now }
         ensures kept { let old = pile self.old.len self.old.slots.now in pile self.new.len self.new.slots.now ≡ drop (length old - n) old }
