@@ -21,19 +21,26 @@ kind blank = Blank
 abbrev pub kinds_of : List Term → List Kind
 kinds_of ts = map kind ts
 
+-- the number of an IRI, of an IRI or a literal
+abbrev pub IsIri : List Kind → ℕ → Type 0
+IsIri ks n = slice_get ks n ≡ Some Iri
+
+abbrev pub IsName : List Kind → ℕ → Type 0
+IsName ks n = IsIri ks n ⊎ (slice_get ks n ≡ Some Literal)
+
 -- a subject: an IRI, or a goal blank
 abbrev pub SubjectAllowed : List Kind → Position → Type 0
-SubjectAllowed ks (Name n) = slice_get ks n ≡ Some Iri
+SubjectAllowed ks (Name n) = IsIri ks n
 SubjectAllowed ks (GoalBlank k) = k < goal_blanks
 
 -- a predicate: an IRI
 abbrev pub PredicateAllowed : List Kind → Position → Type 0
-PredicateAllowed ks (Name n) = slice_get ks n ≡ Some Iri
+PredicateAllowed ks (Name n) = IsIri ks n
 PredicateAllowed ks (GoalBlank k) = ⊥
 
 -- an object: an IRI, a literal, or a goal blank
 abbrev pub ObjectAllowed : List Kind → Position → Type 0
-ObjectAllowed ks (Name n) = (slice_get ks n ≡ Some Iri) ⊎ (slice_get ks n ≡ Some Literal)
+ObjectAllowed ks (Name n) = IsName ks n
 ObjectAllowed ks (GoalBlank k) = k < goal_blanks
 
 abbrev pub RowAllowed : List Kind → GoalRow → Type 0

@@ -1,7 +1,7 @@
 // The kinds of terms, and which positions a goal may have.
-ghost use Rattle.std.specs.Prelude.{Decides};
+ghost use Rattle.std.specs.Prelude.{◌<◌, Decides};
 ghost use Rattle.std.specs.List.{AllByRecursion};
-ghost use Rattle.embedding.specs.Kinds.{SubjectAllowed, PredicateAllowed, ObjectAllowed, RowAllowed, GoalAllowed};
+ghost use Rattle.embedding.specs.Kinds.{goal_blanks, IsIri, IsName, SubjectAllowed, PredicateAllowed, ObjectAllowed, RowAllowed, GoalAllowed};
 
 use entailment::goal::{GoalRow, Position};
 use triples::triple::TermNumber;
@@ -17,38 +17,51 @@ pub enum Kind {
     Blank,
 }
 
-// An IRI, or a goal blank.
+fn is_iri(number: TermNumber, kinds: &[Kind]) -> bool
+    ensures { Decides result (IsIri kinds.now number) }
+{
+    matches!(kinds.get(usize::from(number)), Some(Kind::Iri))
+}
+
+fn is_name(number: TermNumber, kinds: &[Kind]) -> bool
+    ensures { Decides result (IsName kinds.now number) }
+{
+    matches!(
+        kinds.get(usize::from(number)),
+        Some(Kind::Iri | Kind::Literal)
+    )
+}
+
+fn is_goal_blank(blank: u8) -> bool
+    ensures { Decides result (blank < goal_blanks) }
+{
+    blank < GOAL_BLANKS
+}
+
 fn subject_allowed(position: Position, kinds: &[Kind]) -> bool
     ensures { Decides result (SubjectAllowed kinds.now position) }
 {
     match position {
-        Position::Name(name) => matches!(kinds.get(usize::from(name)), Some(Kind::Iri)),
-        Position::Blank(blank) => blank < GOAL_BLANKS,
+        Position::Name(number) => is_iri(number, kinds),
+        Position::Blank(blank) => is_goal_blank(blank),
     }
 }
 
-// An IRI.
 fn predicate_allowed(position: Position, kinds: &[Kind]) -> bool
     ensures { Decides result (PredicateAllowed kinds.now position) }
 {
     match position {
-        Position::Name(name) => matches!(kinds.get(usize::from(name)), Some(Kind::Iri)),
+        Position::Name(number) => is_iri(number, kinds),
         Position::Blank(_) => false,
     }
 }
 
-// An IRI, a literal, or a goal blank.
 fn object_allowed(position: Position, kinds: &[Kind]) -> bool
     ensures { Decides result (ObjectAllowed kinds.now position) }
 {
     match position {
-        Position::Name(name) => {
-            matches!(
-                kinds.get(usize::from(name)),
-                Some(Kind::Iri | Kind::Literal)
-            )
-        }
-        Position::Blank(blank) => blank < GOAL_BLANKS,
+        Position::Name(number) => is_name(number, kinds),
+        Position::Blank(blank) => is_goal_blank(blank),
     }
 }
 
