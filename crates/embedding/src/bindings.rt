@@ -27,6 +27,7 @@ impl<'a> Model for Bindings<'a> {
 }
 
 impl<'a> Bindings<'a> {
+    // With nothing bound, whatever the memory holds.
     pub(crate) fn new(blanks: &'a mut [u8]) -> Bindings<'a>
         requires { 8 ≤ length blanks.old }
         ensures { result ≡ [] }
@@ -37,6 +38,7 @@ impl<'a> Bindings<'a> {
         }
     }
 
+    // How many goal blanks are bound.
     pub(crate) fn len(&self) -> usize
         ensures { result ≡ length self.now }
     {
@@ -54,7 +56,7 @@ impl<'a> Bindings<'a> {
         }
     }
 
-    // Whether a goal blank is not among the lowest `mark` that are bound.
+    // Whether a goal blank was bound after the lowest `mark`.
     pub(crate) fn is_bound_since(&self, mark: usize, blank: u8) -> bool
         requires { mark ≤ length self.now }
         ensures { OnFalse result (lookup self.now blank ≡ lookup (lowest mark self.now) blank) }
@@ -62,6 +64,7 @@ impl<'a> Bindings<'a> {
         self.blanks.as_slice()[mark..].contains(&blank)
     }
 
+    // Binds a goal blank that is not bound; so there is room for it.
     pub(crate) fn bind(&mut self, blank: u8, term: u8)
         requires { (blank < 8) × (lookup self.old blank ≡ None) }
         ensures { self.new ≡ (blank, term) ∷ self.old }
@@ -73,6 +76,7 @@ impl<'a> Bindings<'a> {
         }
     }
 
+    // Leaves the lowest `n` bound.
     pub(crate) fn truncate(&mut self, n: usize)
         ensures { self.new ≡ lowest n self.old }
     {
