@@ -1,0 +1,14 @@
+pub mod Bound
+pub mod Meeting
+pub mod Unifying
+pub mod RowByRow
+pub mod Fitting
+pub mod Openness
+pub mod Remaining
+pub mod Standing
+pub mod Turns
+pub mod Choosing
+pub mod Seeking
+pub mod Finding
+pub mod InTerms
+pub mod NamedRows
