@@ -1,0 +1,5 @@
+mod Numbers
+mod Beginning
+mod Tables
+mod Packing
+mod Packed
