@@ -16,8 +16,8 @@ pub length-thirty : length thirty ≡ 30
 unfolding thirty
 length-thirty = refl
 
-pub length-all_terms : (more : List Term) → length (all_terms more) ≡ 30 + length more
-length-all_terms more = length-append thirty more ∙ ap (λ n. n + length more) length-thirty
+pub length_all_terms : (more : List Term) → length (all_terms more) ≡ 30 + length more
+length_all_terms more = length-append thirty more ∙ ap (λ n. n + length more) length-thirty
 
 is_true : (b : Bool) → T b → b ≡ true
 is_true true h = refl

@@ -3,3 +3,4 @@ mod Beginning
 mod Tables
 mod Packing
 mod Packed
+mod Determined

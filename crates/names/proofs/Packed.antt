@@ -6,13 +6,13 @@ use Rattle.entailment.specs.Terms.{Term, blank, thirty}
 use Rattle.names.specs.declared.span.Span.{Span}
 use Rattle.names.specs.Terms.{term_spelled, spelled_bytes, all_terms, most_terms, most_bytes, HasSpelling, IsLawful, IsUnknown, IsTable}
 use Rattle.names.specs.Spans.{spelling_in, terms_in, Lie, IsPacked}
-use Rattle.names.proofs.Beginning.{length-thirty, length-all_terms}
+use Rattle.names.proofs.Beginning.{length-thirty, length_all_terms}
 use Rattle.names.proofs.Tables.{IsTable-nil, IsTable-push, IsTable-take}
 use Rattle.names.proofs.Packing.{IsInside, Lie-at, Lie-push, Lie-take, Lie-bytes, bytes_of-term_spelled, terms_in-same}
 
-pub IsPacked-none : (bytes : List ℕ) (spans : List Span) → length bytes ≡ 8192 → length spans ≡ 226 → IsPacked bytes 0 spans 0
+pub packed_none : (bytes : List ℕ) (spans : List Span) → length bytes ≡ 8192 → length spans ≡ 226 → IsPacked bytes 0 spans 0
 unfolding terms_in
-IsPacked-none bytes spans b s = record {
+packed_none bytes spans b s = record {
   sizes = (b, s);
   within = (omega arith, omega arith);
   lie = refl;
@@ -34,7 +34,7 @@ module _ (bytes : List ℕ) (used : ℕ) (spans : List Span) (n : ℕ) (packed :
   length-packed = length-map (take n spans) (λ (x : Span). term_spelled (spelling_in bytes x)) ∙ length-take-le n spans (omega (arith, packed.sizes, packed.within))
 
   pub length-all_packed : length (all_terms (terms_in bytes (take n spans))) ≡ 30 + n
-  length-all_packed = length-all_terms (terms_in bytes (take n spans)) ∙ ap (λ m. 30 + m) length-packed
+  length-all_packed = length_all_terms (terms_in bytes (take n spans)) ∙ ap (λ m. 30 + m) length-packed
 
   pub bytes-packed : spelled_bytes (terms_in bytes (take n spans)) ≡ used
   bytes-packed = omega (arith, Lie-bytes bytes 0 used (take n spans) packed.lie (omega (arith, packed.sizes, packed.within)))

@@ -8,13 +8,13 @@ use Rattle.std.proofs.lemmas.List.Sums.{sum_by_push, sum_by-take-le}
 use Rattle.entailment.specs.Terms.{Term, thirty}
 use Rattle.names.specs.Terms.{HasSpelling, IsUnknown, IsLawful, HasNoNameTwice, bytes_of, spelled_bytes, most_bytes, most_terms, all_terms, IsTable}
 use Rattle.names.proofs.Numbers.{HasNoNameTwice-push, HasNoNameTwice-take}
-use Rattle.names.proofs.Beginning.{length-all_terms, thirty-lawful, thirty-once}
+use Rattle.names.proofs.Beginning.{length_all_terms, thirty-lawful, thirty-once}
 
 pub IsTable-nil : IsTable []
 IsTable-nil =
     let e : all_terms [] ≡ thirty = append-nil thirty in
     record {
-      few = omega (arith, length-all_terms []);
+      few = omega (arith, length_all_terms []);
       short = omega arith;
       lawful = subst (All IsLawful) (sym e) thirty-lawful;
       distinct = subst HasNoNameTwice (sym e) thirty-once;
@@ -35,7 +35,7 @@ module _ (more : List Term) (table : IsTable more) where
   IsTable-take k =
       let e : take (length thirty + k) (all_terms more) ≡ all_terms (take k more) = take-append-add thirty more k in
       record {
-        few = omega (arith, length-all_terms (take k more), length-all_terms more, length-take k more, table.few);
+        few = omega (arith, length_all_terms (take k more), length_all_terms more, length-take k more, table.few);
         short = omega (arith, sum_by-take-le bytes_of more k, table.short);
         lawful = subst (All IsLawful) e (All-take IsLawful (length thirty + k) (all_terms more) table.lawful);
         distinct = subst HasNoNameTwice e (HasNoNameTwice-take (length thirty + k) (all_terms more) table.distinct);

@@ -39,29 +39,30 @@ pub record Appends (t : Term) (old new : List Term) (n : ℕ) : Type 0 where
   pub last : new ≡ old ++ t ∷ []
   pub number : n ≡ length (all_terms old)
 
--- the name was there, and nothing changes
+-- the name is lawful and was there, and nothing changes
 pub record IsKnown (b : List ℕ) (old new : List Term) (n : ℕ) : Type 0 where
+  pub lawful : Lawful b
   pub found : IsNumberOf b (all_terms old) n
   pub same : new ≡ old
 
--- the name is new, lawful, and has room
+-- the name is lawful and new, and there is room for it
 pub record IsAdded (b : List ℕ) (limit : ℕ) (old new : List Term) (n : ℕ) : Type 0 where
-  pub unknown : IsUnknown b (all_terms old)
   pub lawful : Lawful b
+  pub unknown : IsUnknown b (all_terms old)
   pub room : ¬ IsFull limit old
   pub fits : ¬ Overflows b old
   pub appends : Appends (term_spelled b) old new n
 
--- when a new name is refused so
+-- when a name is refused so
 abbrev pub Refuses : List ℕ → ℕ → List Term → Refusal → Type 0
 Refuses b limit old NotLawful = ¬ Lawful b
-Refuses b limit old Terms = Lawful b × IsFull limit old
-Refuses b limit old Bytes = Lawful b × (¬ IsFull limit old) × Overflows b old
+Refuses b limit old Terms = Lawful b × IsUnknown b (all_terms old) × IsFull limit old
+Refuses b limit old Bytes = Lawful b × IsUnknown b (all_terms old) × (¬ IsFull limit old) × Overflows b old
 
 -- what interning a name answers: a refusal changes nothing
 abbrev pub Interns : List ℕ → ℕ → List Term → List Term → Result ℕ Refusal → Type 0
 Interns b limit old new (Ok n) = IsKnown b old new n ⊎ IsAdded b limit old new n
-Interns b limit old new (Err e) = IsUnknown b (all_terms old) × Refuses b limit old e × (new ≡ old)
+Interns b limit old new (Err e) = Refuses b limit old e × (new ≡ old)
 
 -- what a new blank answers
 abbrev pub AddsBlank : ℕ → List Term → List Term → Result ℕ Refusal → Type 0

@@ -1,7 +1,9 @@
 // The table of names.
-ghost use Rattle.std.specs.Prelude.{◌≡◌, ◌+◌, ◌-◌, ◌<◌, ◌≤◌, ℕ, List, [], ◌∷◌, ◌++◌, length, take, slice_get, option_map, Decides};
-ghost use Rattle.entailment.specs.Terms.{blank as a_blank};
+ghost use Rattle.std.specs.Prelude.{◌≡◌, ◌+◌, ◌-◌, ◌<◌, ◌≤◌, ℕ, List, [], ◌∷◌, ◌++◌, length, take, slice_get, option_map, Option, Result, IfSome, Decides};
+ghost use Rattle.spelling.specs.Names.{Lawful};
+ghost use Rattle.entailment.specs.Terms.{Term};
 ghost use Rattle.names.specs.Terms.{term_spelled, HasSpelling, IsLawful, spelled_bytes, most_bytes, most_terms, all_terms, IsNumberOf, IsUnknown, IsTable};
+ghost use Rattle.names.specs.declared.refusal.Refusal.{Refusal};
 ghost use Rattle.names.specs.Calls.{term_of, Finds, IsFull, Appends, Interns, AddsBlank};
 
 use crate::refusal::Refusal;
@@ -45,16 +47,24 @@ impl Model for Names {
 }
 
 impl Names {
+    // A table that begins empty, whatever the bytes and the spans are.
+    fn over(bytes: [u8; MOST_BYTES], spans: [Span; MOST_TERMS - BEGINNING]) -> Names
+        ensures { result ≡ [] }
+    {
+        Names {
+            bytes,
+            used: 0,
+            spans,
+            len: 0,
+        }
+    }
+
     // The thirty alone.
     pub fn new() -> Names
         ensures { result ≡ [] }
     {
-        Names {
-            bytes: [0; MOST_BYTES],
-            used: 0,
-            spans: [Span { start: 0, end: 0 }; MOST_TERMS - BEGINNING],
-            len: 0,
-        }
+        let spans = [Span { start: 0, end: 0 }; MOST_TERMS - BEGINNING];
+        Names::over([0; MOST_BYTES], spans)
     }
 
     // What is so of every table.
@@ -64,12 +74,21 @@ impl Names {
         let _used = self.used;
     }
 
+    // How many terms there are after the thirty.
+    fn added(&self) -> usize
+        ensures counts { result ≡ length self.now }
+        ensures most { 30 + result ≤ most_terms }
+    {
+        self.len
+    }
+
     // How many terms there are, the thirty included.
+    #[tactic(auto, using(crate::proofs::Beginning::length_all_terms))]
     pub fn len(&self) -> usize
         ensures counts { result ≡ length (all_terms self.now) }
         ensures most { result ≤ most_terms }
     {
-        BEGINNING + self.len
+        BEGINNING + self.added()
     }
 
     // The spelling of the term of a number, empty for a blank; none for a number without a term.
@@ -103,8 +122,8 @@ impl Names {
         Some(View::of(self.spelling(usize::from(number))?))
     }
 
-    // The number of the name with this spelling.
-    pub fn find(&self, spelling: &[u8]) -> Option<TermNumber>
+    // The first number of a name with this spelling.
+    fn position(&self, spelling: &[u8]) -> Option<TermNumber>
         ensures { Finds spelling.now self.now result }
     {
         for number in 0..self.len() {
@@ -115,6 +134,16 @@ impl Names {
         None
     }
 
+    // The number of the name with this spelling, which is lawful if there is one.
+    pub fn find(&self, spelling: &[u8]) -> Option<TermNumber>
+        ensures finds { Finds spelling.now self.now result }
+        ensures only { (r : Option ℕ) → Finds spelling.now self.now r → r ≡ result }
+        ensures lawful { IfSome result (λ _. Lawful spelling.now) }
+    {
+        self.lawful();
+        self.position(spelling)
+    }
+
     // Whether there are as many terms as the limit, or 256.
     fn is_full(&self, limit: usize) -> bool
         ensures { Decides result (IsFull limit self.now) }
@@ -122,11 +151,11 @@ impl Names {
         limit.min(MOST_TERMS) <= self.len()
     }
 
-    // Whether a spelling of so many bytes goes in.
-    fn has_room(&self, bytes: usize) -> bool
-        ensures { Decides result (spelled_bytes self.now + bytes ≤ most_bytes) }
+    // How many bytes are left for spellings.
+    fn room(&self) -> usize
+        ensures { result + spelled_bytes self.now ≡ most_bytes }
     {
-        bytes <= MOST_BYTES - self.used
+        MOST_BYTES - self.used
     }
 
     // Adds the term that the bytes spell, and tells its number.
@@ -145,9 +174,8 @@ impl Names {
         number as TermNumber
     }
 
-    // The number of the name with this spelling, which is added where it is new. With it there are no more terms than the limit,
-    // the side of a store.
-    pub fn intern(&mut self, spelling: &[u8], limit: usize) -> Result<TermNumber, Refusal>
+    // The number of the name with this spelling, which is added where it is new.
+    fn find_or_add(&mut self, spelling: &[u8], limit: usize) -> Result<TermNumber, Refusal>
         ensures { Interns spelling.now limit self.old self.new result }
     {
         if let Some(number) = self.find(spelling) {
@@ -159,31 +187,47 @@ impl Names {
         if self.is_full(limit) {
             return Err(Refusal::Terms);
         }
-        if !self.has_room(spelling.len()) {
+        if self.room() < spelling.len() {
             return Err(Refusal::Bytes);
         }
         Ok(self.push(spelling))
     }
 
-    // Adds a blank, and tells its number.
+    // The number of the name with this spelling, which is added where it is new. A new name is refused where there are as many
+    // terms as the limit, the side of a store, or 256.
+    pub fn intern(&mut self, spelling: &[u8], limit: usize) -> Result<TermNumber, Refusal>
+        ensures interns { Interns spelling.now limit self.old self.new result }
+        ensures only { (r : Result ℕ Refusal) (more : List Term) → Interns spelling.now limit self.old more r → (r ≡ result) × (more ≡ self.new) }
+    {
+        self.lawful();
+        self.find_or_add(spelling, limit)
+    }
+
+    // Adds a blank, and tells its number. It is refused as a new name is.
     pub fn blank(&mut self, limit: usize) -> Result<TermNumber, Refusal>
         ensures { AddsBlank limit self.old self.new result }
     {
         if self.is_full(limit) {
             return Err(Refusal::Terms);
         }
-        self.lawful(); // no bytes always fit
+        self.lawful(); // no bytes more always fit
         Ok(self.push(&[]))
     }
 
-    // Keeps the first `len` terms, but always the thirty; the others are gone with their bytes.
+    // Keeps the first `n` of the terms after the thirty, or all where there are no more.
+    fn truncate(&mut self, n: usize)
+        ensures { self.new ≡ take n self.old }
+    {
+        if n < self.len {
+            self.used = usize::from(self.spans[n].start);
+            self.len = n;
+        }
+    }
+
+    // Keeps the first `len` terms, but always the thirty; the others are gone, with their bytes.
     pub fn cut(&mut self, len: usize)
         ensures { self.new ≡ take (len - 30) self.old }
     {
-        let kept = len.saturating_sub(BEGINNING);
-        if kept < self.len {
-            self.used = usize::from(self.spans[kept].start);
-            self.len = kept;
-        }
+        self.truncate(len.saturating_sub(BEGINNING));
     }
 }

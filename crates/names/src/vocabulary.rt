@@ -45,7 +45,8 @@ fn at<'a>(spellings: &[&'a [u8]], number: usize) -> &'a [u8]
     spellings[number]
 }
 
-// The spelling of one of the thirty, by its number.
+// The spelling of one of the thirty, by its number. The table and the thirty are compared by computing.
+#[tactic(auto, unfolding(entailment::specs::Terms::thirty, entailment::specs::Terms::rdf, entailment::specs::Terms::rdfs))]
 pub(crate) fn spelling(number: usize) -> &'static [u8]
     requires { number < 30 }
     ensures { slice_get thirty number ≡ Some (term_spelled result.now) }
