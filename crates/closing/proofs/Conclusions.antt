@@ -1,0 +1,74 @@
+-- The steps are the rows: what follows from premises that fit lies in each set closed under the row, and when each pair that
+-- fits is done, so is each reading.
+use Rattle.std.proofs.Common.{◌≡◌, ℕ, ◌≤◌, true, [], ◌∷◌, get_or, refl, sym, ap, ◌∙◌, arith}
+use Rattle.triples.specs.declared.triple.Triple.{Triple}
+use Rattle.triples.specs.Codes.{Inside}
+use Rattle.triples.specs.Sets.{Graph}
+use Rattle.triples.specs.Questions.{Fits}
+use Rattle.triples.proofs.Triples.{triple_eq}
+use Rattle.entailment.specs.declared.regime.Row.{Row}
+use Rattle.entailment.specs.declared.regime.Row.TheVariants.{RdfD2, Rdfs2, Rdfs3, Rdfs4a, Rdfs4b, Rdfs5, Rdfs6, Rdfs7, Rdfs8, Rdfs9, Rdfs10, Rdfs11, Rdfs12, Rdfs13}
+use Rattle.entailment.specs.Vocabulary.{#type, #Property, #Class, #Datatype, #CMP, #domain, #range, #subClassOf, #subPropertyOf}
+use Rattle.entailment.specs.Rows.{triple}
+use Rattle.closing.specs.Steps.{first_of, Partner, conclusion_of}
+use Rattle.closing.specs.Passes.{RowFrom, RowClosed, PartnersFrom}
+
+-- a conclusion has no numbers but its premises' and the vocabulary's
+pub conclusion-inside : (n : ℕ) → 32 ≤ n → (t u : Triple) → Inside n t → Inside n u → (row : Row) → Inside n (conclusion_of row t u)
+conclusion-inside n w t u i j RdfD2 = (omega arith, omega arith, omega arith)
+conclusion-inside n w t u i j Rdfs2 = (omega arith, omega arith, omega arith)
+conclusion-inside n w t u i j Rdfs3 = (omega arith, omega arith, omega arith)
+conclusion-inside n w t u i j Rdfs4a = (omega arith, omega arith, omega arith)
+conclusion-inside n w t u i j Rdfs4b = (omega arith, omega arith, omega arith)
+conclusion-inside n w t u i j Rdfs5 = (omega arith, omega arith, omega arith)
+conclusion-inside n w t u i j Rdfs6 = (omega arith, omega arith, omega arith)
+conclusion-inside n w t u i j Rdfs7 = (omega arith, omega arith, omega arith)
+conclusion-inside n w t u i j Rdfs8 = (omega arith, omega arith, omega arith)
+conclusion-inside n w t u i j Rdfs9 = (omega arith, omega arith, omega arith)
+conclusion-inside n w t u i j Rdfs10 = (omega arith, omega arith, omega arith)
+conclusion-inside n w t u i j Rdfs11 = (omega arith, omega arith, omega arith)
+conclusion-inside n w t u i j Rdfs12 = (omega arith, omega arith, omega arith)
+conclusion-inside n w t u i j Rdfs13 = (omega arith, omega arith, omega arith)
+
+-- what the seven letters stand for
+abbrev letters : ℕ → ℕ → ℕ → ℕ → ℕ → ℕ → ℕ → ℕ → ℕ
+letters a b c d e x y k = get_or (a ∷ b ∷ c ∷ d ∷ e ∷ x ∷ y ∷ []) k 0
+
+as_triple : (f : Graph) (t : Triple) (s p o : ℕ) → t.subject ≡ s → t.predicate ≡ p → t.object ≡ o → f t ≡ true → f (triple s p o) ≡ true
+as_triple f t s p o es ep eo h = sym (ap f (triple_eq t (triple s p o) es ep eo)) ∙ h
+
+pub concluded : (row : Row) (t u : Triple) → Fits (first_of row) t → Partner row t u → (f : Graph) → RowClosed row f → f t ≡ true → f u ≡ true → f (conclusion_of row t u) ≡ true
+concluded RdfD2 t u fit par f c h i = c (letters t.predicate 0 0 0 0 t.subject t.object) (as_triple f t _ _ _ refl refl refl h, tt)
+concluded Rdfs2 t u fit par f c h i = c (letters t.subject 0 t.object 0 0 u.subject u.object) (as_triple f t _ _ _ refl fit.1 refl h, (as_triple f u _ _ _ refl par.1 refl i, tt))
+concluded Rdfs3 t u fit par f c h i = c (letters t.subject 0 t.object 0 0 u.subject u.object) (as_triple f t _ _ _ refl fit.1 refl h, (as_triple f u _ _ _ refl par.1 refl i, tt))
+concluded Rdfs4a t u fit par f c h i = c (letters t.predicate 0 0 0 0 t.subject t.object) (as_triple f t _ _ _ refl refl refl h, tt)
+concluded Rdfs4b t u fit par f c h i = c (letters t.predicate 0 0 0 0 t.subject t.object) (as_triple f t _ _ _ refl refl refl h, tt)
+concluded Rdfs5 t u fit par f c h i = c (letters t.subject t.object u.object 0 0 0 0) (as_triple f t _ _ _ refl fit.1 refl h, (as_triple f u _ _ _ par.0 (par.1 ∙ fit.1) refl i, tt))
+concluded Rdfs6 t u fit par f c h i = c (letters t.subject 0 0 0 0 0 0) (as_triple f t _ _ _ refl fit.1 fit.2 h, tt)
+concluded Rdfs7 t u fit par f c h i = c (letters t.subject t.object 0 0 0 u.subject u.object) (as_triple f t _ _ _ refl fit.1 refl h, (as_triple f u _ _ _ refl par.1 refl i, tt))
+concluded Rdfs8 t u fit par f c h i = c (letters 0 0 t.subject 0 0 0 0) (as_triple f t _ _ _ refl fit.1 fit.2 h, tt)
+concluded Rdfs9 t u fit par f c h i = c (letters 0 0 t.subject t.object 0 u.subject 0) (as_triple f t _ _ _ refl fit.1 refl h, (as_triple f u _ _ _ refl par.1 par.2 i, tt))
+concluded Rdfs10 t u fit par f c h i = c (letters 0 0 t.subject 0 0 0 0) (as_triple f t _ _ _ refl fit.1 fit.2 h, tt)
+concluded Rdfs11 t u fit par f c h i = c (letters 0 0 t.subject t.object u.object 0 0) (as_triple f t _ _ _ refl fit.1 refl h, (as_triple f u _ _ _ par.0 (par.1 ∙ fit.1) refl i, tt))
+concluded Rdfs12 t u fit par f c h i = c (letters t.subject 0 0 0 0 0 0) (as_triple f t _ _ _ refl fit.1 fit.2 h, tt)
+concluded Rdfs13 t u fit par f c h i = c (letters 0 0 t.subject 0 0 0 0) (as_triple f t _ _ _ refl fit.1 fit.2 h, tt)
+
+-- each first premise is done
+abbrev pub FirstsFrom : Row → Graph → Graph → Type 0
+FirstsFrom row f g = (t : Triple) → f t ≡ true → Fits (first_of row) t → PartnersFrom row t f g
+
+pub row_from : (row : Row) (f g : Graph) → FirstsFrom row f g → RowFrom row f g
+row_from RdfD2 f g d σ h = d (triple (σ 5) (σ 0) (σ 6)) h.0 (tt, tt, tt) _ h.0 refl
+row_from Rdfs2 f g d σ h = d (triple (σ 0) #domain (σ 2)) h.0 (tt, refl, tt) (triple (σ 5) (σ 0) (σ 6)) h.1.0 (tt, refl, tt)
+row_from Rdfs3 f g d σ h = d (triple (σ 0) #range (σ 2)) h.0 (tt, refl, tt) (triple (σ 5) (σ 0) (σ 6)) h.1.0 (tt, refl, tt)
+row_from Rdfs4a f g d σ h = d (triple (σ 5) (σ 0) (σ 6)) h.0 (tt, tt, tt) _ h.0 refl
+row_from Rdfs4b f g d σ h = d (triple (σ 5) (σ 0) (σ 6)) h.0 (tt, tt, tt) _ h.0 refl
+row_from Rdfs5 f g d σ h = d (triple (σ 0) #subPropertyOf (σ 1)) h.0 (tt, refl, tt) (triple (σ 1) #subPropertyOf (σ 2)) h.1.0 (refl, refl, tt)
+row_from Rdfs6 f g d σ h = d (triple (σ 0) #type #Property) h.0 (tt, refl, refl) _ h.0 refl
+row_from Rdfs7 f g d σ h = d (triple (σ 0) #subPropertyOf (σ 1)) h.0 (tt, refl, tt) (triple (σ 5) (σ 0) (σ 6)) h.1.0 (tt, refl, tt)
+row_from Rdfs8 f g d σ h = d (triple (σ 2) #type #Class) h.0 (tt, refl, refl) _ h.0 refl
+row_from Rdfs9 f g d σ h = d (triple (σ 2) #subClassOf (σ 3)) h.0 (tt, refl, tt) (triple (σ 5) #type (σ 2)) h.1.0 (tt, refl, refl)
+row_from Rdfs10 f g d σ h = d (triple (σ 2) #type #Class) h.0 (tt, refl, refl) _ h.0 refl
+row_from Rdfs11 f g d σ h = d (triple (σ 2) #subClassOf (σ 3)) h.0 (tt, refl, tt) (triple (σ 3) #subClassOf (σ 4)) h.1.0 (refl, refl, tt)
+row_from Rdfs12 f g d σ h = d (triple (σ 0) #type #CMP) h.0 (tt, refl, refl) _ h.0 refl
+row_from Rdfs13 f g d σ h = d (triple (σ 2) #type #Datatype) h.0 (tt, refl, refl) _ h.0 refl

@@ -1,0 +1,10 @@
+pub mod Elements
+pub mod Growing
+pub mod Filling
+pub mod Inclusions
+pub mod Conclusions
+pub mod Walking
+pub mod Sweeping
+pub mod KindsOfTerms
+pub mod StartSets
+pub mod Ending

@@ -1,0 +1,5 @@
+pub mod Kinds
+pub mod Steps
+pub mod Passes
+pub mod Seeds
+pub mod Closes

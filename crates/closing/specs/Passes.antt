@@ -1,0 +1,66 @@
+-- An inner device: how a set grows while a store is filled. No public contract ends on it. Assumes nothing.
+use Rattle.std.specs.Prelude.{◌≡◌, ℕ, ◌≤◌, true, false, T, Ok, Err, Result, List}
+use Rattle.std.specs.List.{AllByRecursion}
+use Rattle.triples.specs.declared.triple.Triple.{Triple}
+use Rattle.triples.specs.Codes.{width, Inside}
+use Rattle.triples.specs.Sets.{Graph, size}
+use Rattle.entailment.specs.declared.regime.Regime.{Regime}
+use Rattle.entailment.specs.declared.regime.Row.{Row}
+use Rattle.entailment.specs.Rows.{premises, conclusion, reading, uses}
+use Rattle.closing.specs.declared.passes.NoRoom.{NoRoom}
+use Rattle.closing.specs.Steps.{Partner, conclusion_of}
+
+-- each triple of f is in g
+abbrev pub Within : Graph → Graph → Type 0
+Within f g = (t : Triple) → f t ≡ true → g t ≡ true
+
+-- f grew to g, by nothing but what lies in each set that is so as C says and holds f
+pub record Grown (C : Graph → Type 0) (f g : Graph) : Type 0 where
+  pub keeps : Within f g
+  pub sound : (other : Graph) → C other → Within f other → Within g other
+
+-- g has no room at the capacity m for one triple more, which lies in each such set
+pub record Spilt (C : Graph → Type 0) (m : ℕ) (f g : Graph) : Type 0 where
+  pub extra : Triple
+  pub inside : Inside width extra
+  pub missing : g extra ≡ false
+  pub full : m ≤ size g
+  pub sound : (other : Graph) → C other → Within f other → other extra ≡ true
+
+-- f grew to g at the capacity m: all was done, or there was no room
+abbrev pub Outcome : (Graph → Type 0) → Type 0 → ℕ → Graph → Graph → Result (Unit {0}) NoRoom → Type 0
+Outcome C Done m f g (Ok u) = Grown C f g × Done
+Outcome C Done m f g (Err e) = Grown C f g × Spilt C m f g
+
+-- the set has a triple; those of a list
+abbrev pub Holds : Triple → Graph → Type 0
+Holds t f = f t ≡ true
+
+abbrev pub HoldsAll : List Triple → Graph → Type 0
+HoldsAll ts f = AllByRecursion (λ t. f t ≡ true) ts
+
+-- g has the conclusion of each reading of the row whose premises f has
+abbrev pub RowFrom : Row → Graph → Graph → Type 0
+RowFrom row f g = (σ : ℕ → ℕ) → AllByRecursion (λ p. f (reading σ p) ≡ true) (premises row) → g (reading σ (conclusion row)) ≡ true
+
+-- the same of the readings whose first premise is t
+abbrev pub PartnersFrom : Row → Triple → Graph → Graph → Type 0
+PartnersFrom row t f g = (u : Triple) → f u ≡ true → Partner row t u → g (conclusion_of row t u) ≡ true
+
+-- the same where the regime has the row
+abbrev pub UsedFrom : Regime → Row → Graph → Graph → Type 0
+UsedFrom r row f g = T (uses r row) → RowFrom row f g
+
+-- the same of each row of the regime
+abbrev pub RowsFrom : Regime → Graph → Graph → Type 0
+RowsFrom r f g = (row : Row) → UsedFrom r row f g
+
+-- the set is closed under the row; under the row where the regime has it; under the regime's rows
+abbrev pub RowClosed : Row → Graph → Type 0
+RowClosed row f = RowFrom row f f
+
+abbrev pub UsedClosed : Regime → Row → Graph → Type 0
+UsedClosed r row f = UsedFrom r row f f
+
+abbrev pub RowsClosed : Regime → Graph → Type 0
+RowsClosed r f = RowsFrom r f f

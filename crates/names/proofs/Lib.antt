@@ -1,0 +1,6 @@
+mod Numbers
+mod Beginning
+mod Tables
+mod Packing
+mod Packed
+mod Determined
