@@ -1,14 +1,22 @@
 -- An inner device: the rows as the passes take them. A pattern for the first premise; a pattern for the second where the first
 -- is known, or none for a row of one premise, which is then its second too; and the conclusion. No public contract ends on it.
 -- Assumes nothing.
-use Rattle.std.specs.Prelude.{◌≡◌, ℕ, Some, None, Option, MatchOption}
+use Rattle.std.specs.Prelude.{◌≡◌, ℕ, Some, None, Option, MatchOption, List, [], ◌∷◌}
 use Rattle.triples.specs.declared.triple.Triple.{Triple}
 use Rattle.triples.specs.declared.question.Pattern.{Pattern}
 use Rattle.triples.specs.Questions.{Fits, free}
+use Rattle.entailment.specs.declared.regime.Regime.{Regime}
+use Rattle.entailment.specs.declared.regime.Regime.TheVariants.{Simple, Rdf, Rdfs}
 use Rattle.entailment.specs.declared.regime.Row.{Row}
 use Rattle.entailment.specs.declared.regime.Row.TheVariants.{RdfD2, Rdfs2, Rdfs3, Rdfs4a, Rdfs4b, Rdfs5, Rdfs6, Rdfs7, Rdfs8, Rdfs9, Rdfs10, Rdfs11, Rdfs12, Rdfs13}
 use Rattle.entailment.specs.Vocabulary.{#type, #Property, #Resource, #Class, #Literal, #Datatype, #CMP, #domain, #range, #subClassOf, #subPropertyOf, #member}
-use Rattle.entailment.specs.Rows.{triple}
+use Rattle.entailment.specs.Rows.{triple, rows}
+
+-- the rows of a regime
+abbrev pub rows_of : Regime → List Row
+rows_of Simple = []
+rows_of Rdf = RdfD2 ∷ []
+rows_of Rdfs = rows
 
 abbrev pub by_predicate : ℕ → Pattern
 by_predicate p = record { subject = None; predicate = Some p; object = None }

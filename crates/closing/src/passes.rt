@@ -4,10 +4,10 @@ ghost use Rattle.std.specs.Prelude.{◌≡◌, true, Some};
 ghost use Rattle.triples.specs.Codes.{Inside};
 ghost use Rattle.triples.specs.Questions.{Fits};
 ghost use Rattle.closing.specs.Steps.{first_of, second_of, conclusion_of, Partner};
-ghost use Rattle.closing.specs.Passes.{Outcome, Holds, RowFrom, PartnersFrom, UsedFrom, RowsFrom, RowClosed, UsedClosed, RowsClosed};
+ghost use Rattle.closing.specs.Passes.{Outcome, Swept, Holds, RowFrom, PartnersFrom, RowsFrom, RowClosed, RowsClosed};
 
-use crate::rows::{conclude, first_pattern, second_pattern};
-use entailment::regime::{ROWS, Regime, Row};
+use crate::rows::{conclude, first_pattern, rows_of, second_pattern};
+use entailment::regime::{Regime, Row};
 use triples::question::Pattern;
 use triples::store::TripleStore;
 use triples::triple::Triple;
@@ -99,29 +99,27 @@ fn apply<S: TripleStore>(store: &mut S, row: Row) -> Result<(), NoRoom>
     Ok(())
 }
 
-// The same, where the regime has the row.
-fn apply_used<S: TripleStore>(store: &mut S, regime: Regime, row: Row) -> Result<(), NoRoom>
-    ensures side { S.TripleStore.side_of store.new ≡ S.TripleStore.side_of store.old }
-    ensures capacity { S.TripleStore.capacity_of store.new ≡ S.TripleStore.capacity_of store.old }
-    ensures applies { Outcome (UsedClosed regime row) (UsedFrom regime row (S.TripleStore.held store.old) (S.TripleStore.held store.new)) (S.TripleStore.capacity_of store.new) (S.TripleStore.held store.old) (S.TripleStore.held store.new) result }
-{
-    if regime.has_row(row) {
-        apply(store, row)
-    } else {
-        Ok(())
-    }
-}
-
 // Puts in what follows by each row of the regime in turn.
 fn sweep<S: TripleStore>(store: &mut S, regime: Regime) -> Result<(), NoRoom>
     ensures side { S.TripleStore.side_of store.new ≡ S.TripleStore.side_of store.old }
     ensures capacity { S.TripleStore.capacity_of store.new ≡ S.TripleStore.capacity_of store.old }
     ensures sweeps { Outcome (RowsClosed regime) (RowsFrom regime (S.TripleStore.held store.old) (S.TripleStore.held store.new)) (S.TripleStore.capacity_of store.new) (S.TripleStore.held store.old) (S.TripleStore.held store.new) result }
 {
-    for row in ROWS {
-        apply_used(store, regime, row)?;
+    for row in rows_of(regime) {
+        apply(store, *row)?;
     }
     Ok(())
+}
+
+// The same, and tells whether anything was added.
+fn sweep_adds<S: TripleStore>(store: &mut S, regime: Regime) -> Result<bool, NoRoom>
+    ensures side { S.TripleStore.side_of store.new ≡ S.TripleStore.side_of store.old }
+    ensures capacity { S.TripleStore.capacity_of store.new ≡ S.TripleStore.capacity_of store.old }
+    ensures sweeps { Swept regime (S.TripleStore.capacity_of store.new) (S.TripleStore.held store.old) (S.TripleStore.held store.new) result }
+{
+    let before = store.count();
+    sweep(store, regime)?;
+    Ok(before < store.count())
 }
 
 // Sweeps until a sweep adds nothing.
@@ -130,11 +128,6 @@ pub fn saturate<S: TripleStore>(store: &mut S, regime: Regime) -> Result<(), NoR
     ensures capacity { S.TripleStore.capacity_of store.new ≡ S.TripleStore.capacity_of store.old }
     ensures saturates { Outcome (RowsClosed regime) (RowsClosed regime (S.TripleStore.held store.new)) (S.TripleStore.capacity_of store.new) (S.TripleStore.held store.old) (S.TripleStore.held store.new) result }
 {
-    loop {
-        let before = store.count();
-        sweep(store, regime)?;
-        if store.count() == before {
-            return Ok(());
-        }
-    }
+    while sweep_adds(store, regime)? {}
+    Ok(())
 }

@@ -1,15 +1,26 @@
 // The rows as the passes take them: what is asked of a row's premises, and its conclusion. A row of one premise asks for no
 // second, and is given its premise twice.
 ghost use Rattle.std.specs.Prelude.{◌≡◌};
-ghost use Rattle.closing.specs.Steps.{first_of, second_of, conclusion_of, by_predicate, by_type};
+ghost use Rattle.closing.specs.Steps.{rows_of, first_of, second_of, conclusion_of, by_predicate, by_type};
 
 use crate::vocabulary::{
     CLASS, CMP, DATATYPE, DOMAIN, LITERAL, MEMBER, PROPERTY, RANGE, RESOURCE, SUB_CLASS_OF,
     SUB_PROPERTY_OF, TYPE,
 };
-use entailment::regime::Row;
+use entailment::regime::{ROWS, Regime, Row};
 use triples::question::Pattern;
 use triples::triple::{TermNumber, Triple};
+
+// The rows of a regime.
+pub fn rows_of(regime: Regime) -> &'static [Row]
+    ensures { result.now ≡ rows_of regime }
+{
+    match regime {
+        Regime::Simple => &[],
+        Regime::Rdf => &[Row::RdfD2],
+        Regime::Rdfs => &ROWS,
+    }
+}
 
 // Asks for a predicate.
 fn by_predicate(predicate: TermNumber) -> Pattern
