@@ -138,23 +138,23 @@ module _ (more : List Term) (f : Graph) where
     list_rdfs (all_rest (λ t. f t ≡ true) (rdf_start (thirty ++ more)) (rdfs_start (thirty ++ more)) h),
   )
 
--- the fixed triples are inside every store
+-- the fixed triples are of the first thirty terms
 low : Triple → Bool
-low t = nat_lt t.subject 32 && (nat_lt t.predicate 32 && nat_lt t.object 32)
+low t = nat_lt t.subject 30 && (nat_lt t.predicate 30 && nat_lt t.object 30)
 
-low-inside : (n : ℕ) → 32 ≤ n → (t : Triple) → T (low t) → Inside n t
+low-inside : (n : ℕ) → 30 ≤ n → (t : Triple) → T (low t) → Inside n t
 unfolding low
 low-inside n w t h =
-    let a = and_left (nat_lt t.subject 32) (nat_lt t.predicate 32 && nat_lt t.object 32) h in
-    let b = and_right (nat_lt t.subject 32) (nat_lt t.predicate 32 && nat_lt t.object 32) h in
-    let c = and_left (nat_lt t.predicate 32) (nat_lt t.object 32) b in
-    let d = and_right (nat_lt t.predicate 32) (nat_lt t.object 32) b in
-    (omega (arith, ltb-true t.subject 32 (passed (nat_lt t.subject 32) a)), omega (arith, ltb-true t.predicate 32 (passed (nat_lt t.predicate 32) c)), omega (arith, ltb-true t.object 32 (passed (nat_lt t.object 32) d)))
+    let a = and_left (nat_lt t.subject 30) (nat_lt t.predicate 30 && nat_lt t.object 30) h in
+    let b = and_right (nat_lt t.subject 30) (nat_lt t.predicate 30 && nat_lt t.object 30) h in
+    let c = and_left (nat_lt t.predicate 30) (nat_lt t.object 30) b in
+    let d = and_right (nat_lt t.predicate 30) (nat_lt t.object 30) b in
+    (omega (arith, ltb-true t.subject 30 (passed (nat_lt t.subject 30) a)), omega (arith, ltb-true t.predicate 30 (passed (nat_lt t.predicate 30) c)), omega (arith, ltb-true t.object 30 (passed (nat_lt t.object 30) d)))
 
-pub rdf_fixed-inside : (n : ℕ) → 32 ≤ n → AllByRecursion (Inside n) rdf_fixed
+pub rdf_fixed-inside : (n : ℕ) → 30 ≤ n → AllByRecursion (Inside n) rdf_fixed
 unfolding low
 rdf_fixed-inside n w = all-by_test (Inside n) low (low-inside n w) rdf_fixed tt
 
-pub rdfs_fixed-inside : (n : ℕ) → 32 ≤ n → AllByRecursion (Inside n) rdfs_fixed
+pub rdfs_fixed-inside : (n : ℕ) → 30 ≤ n → AllByRecursion (Inside n) rdfs_fixed
 unfolding low
 rdfs_fixed-inside n w = all-by_test (Inside n) low (low-inside n w) rdfs_fixed tt

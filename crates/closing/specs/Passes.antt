@@ -8,7 +8,8 @@ use Rattle.entailment.specs.declared.regime.Regime.{Regime}
 use Rattle.entailment.specs.declared.regime.Row.{Row}
 use Rattle.entailment.specs.Rows.{premises, conclusion, reading, uses}
 use Rattle.closing.specs.declared.passes.NoRoom.{NoRoom}
-use Rattle.closing.specs.Steps.{Partner, conclusion_of}
+use Rattle.closing.specs.declared.rows.Part.{Part}
+use Rattle.closing.specs.Steps.{Partner, conclusion_of, term_at}
 
 -- each triple of f is in g
 abbrev pub Within : Graph → Graph → Type 0
@@ -46,6 +47,14 @@ RowFrom row f g = (σ : ℕ → ℕ) → AllByRecursion (λ p. f (reading σ p) 
 -- the same of the readings whose first premise is t
 abbrev pub PartnersFrom : Row → Triple → Graph → Graph → Type 0
 PartnersFrom row t f g = (u : Triple) → f u ≡ true → Partner row t u → g (conclusion_of row t u) ≡ true
+
+-- the same of premises with one term at a part
+abbrev pub TermFrom : Row → Part → ℕ → Graph → Graph → Type 0
+TermFrom row part n f g = (t : Triple) → f t ≡ true → term_at part t ≡ n → g (conclusion_of row t t) ≡ true
+
+-- each triple of the set is of the first n terms
+abbrev pub OfFirst : ℕ → Graph → Type 0
+OfFirst n f = (t : Triple) → f t ≡ true → Inside n t
 
 -- the same of each row of the regime
 abbrev pub RowsFrom : Regime → Graph → Graph → Type 0

@@ -2,6 +2,7 @@
 ghost use Rattle.std.specs.Prelude.{◌≡◌, ◌+◌, ◌≤◌, length, Decides, true, false};
 ghost use Rattle.std.specs.List.{AllByRecursion};
 ghost use Rattle.triples.specs.Codes.{Inside};
+ghost use Rattle.triples.specs.Sets.{empty};
 ghost use Rattle.closing.specs.Passes.{Outcome};
 ghost use Rattle.closing.specs.Seeds.{HoldsClosed};
 ghost use Rattle.closing.specs.Closes.{Closes, WithinSide, ForTermsOf, KindsHaveTerms};
@@ -43,13 +44,14 @@ fn fill<S: TripleStore>(
     kept: &[Triple],
 ) -> Result<(), NoRoom>
     requires few { 30 + length more.now ≤ S.TripleStore.side_of store.old }
-    requires inside { AllByRecursion (Inside (S.TripleStore.side_of store.old)) kept.now }
+    requires inside { AllByRecursion (Inside (30 + length more.now)) kept.now }
+    requires cleared { S.TripleStore.held store.old ≡ empty }
     ensures side { S.TripleStore.side_of store.new ≡ S.TripleStore.side_of store.old }
     ensures capacity { S.TripleStore.capacity_of store.new ≡ S.TripleStore.capacity_of store.old }
     ensures fills { Outcome (HoldsClosed regime more.now kept.now) (HoldsClosed regime more.now kept.now (S.TripleStore.held store.new)) (S.TripleStore.capacity_of store.new) (S.TripleStore.held store.old) (S.TripleStore.held store.new) result }
 {
     seed(store, regime, more, kept)?;
-    saturate(store, regime)
+    saturate(store, regime, THIRTY + more.len())
 }
 
 // Whether there are no more terms than the side, and the kept triples are of the terms.

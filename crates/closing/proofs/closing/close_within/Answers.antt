@@ -1,21 +1,10 @@
-use Rattle.std.proofs.Common.{ℕ, ◌+◌, ◌≤◌, ◌∙◌, ◌++◌, length, subst, sym, arith, Result}
-use Rattle.std.proofs.ByRecursion.{All-weaker}
-use Rattle.triples.specs.Codes.{Inside}
-use Rattle.triples.proofs.Triples.{inside-more}
+use Rattle.std.proofs.Common.{ℕ, ◌∙◌, ◌++◌, subst, sym, Result}
 use Rattle.entailment.specs.Terms.{thirty}
 use Rattle.closing.specs.declared.refusal.Refusal.{Refusal}
 use Rattle.closing.specs.declared.refusal.Refusal.TheVariants.{Full}
 use Rattle.closing.specs.Closes.{Served, Refuses, Closes, ForTermsOf}
 use Rattle.closing.proofs.Ending.{full, served}
 use Rattle.closing.proofs.closing.close_within.Goals as goal
-
-pub fill-requires-clause-inside : goal.fill-requires-clause-inside
-fill-requires-clause-inside g c =
-    let store = g.S.TripleStore in
-    let n = store.side_of c.clear.new.self in
-    let ks = c.args.more.now in
-    let few : 30 + length ks ≤ n = omega (arith, c.requires.few, c.clear.ensures.side) in
-    All-weaker (Inside (30 + length ks)) (Inside n) (λ t. inside-more (30 + length ks) n t few) c.args.kept.now c.requires.inside
 
 pub returns-in-Err-clause-closes : goal.returns-in-Err-clause-closes
 returns-in-Err-clause-closes g c more e =

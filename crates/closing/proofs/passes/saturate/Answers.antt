@@ -4,6 +4,7 @@ use Rattle.triples.specs.Sets.{size}
 use Rattle.triples.proofs.Lawfulness.{lawful-inside}
 use Rattle.closing.specs.Passes.{RowsClosed}
 use Rattle.closing.proofs.Growing.{grown_on, spilt_on, broken}
+use Rattle.closing.proofs.Insides.{stays_inside}
 use Rattle.closing.proofs.Sweeping.{still}
 use Rattle.closing.proofs.passes.saturate.Goals as goal
 
@@ -44,3 +45,8 @@ returns-clause-saturates g c =
       grown_on c.loop.invariant.grown e.sweeps.0,
       still c.args.regime h k e.sweeps.0.keeps less (lawful-inside (store.side_of s) (store.capacity_of s) k (store.lawful s)) e.sweeps.1,
     )
+
+pub sweep_adds-requires-clause-inside : goal.sweep_adds-requires-clause-inside
+sweep_adds-requires-clause-inside g c =
+    let store = g.S.TripleStore in
+    stays_inside c.args.regime c.args.terms (store.held c.args.store.now) (store.held c.loop.store) c.requires.enough c.loop.invariant.grown c.requires.inside

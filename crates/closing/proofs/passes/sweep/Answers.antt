@@ -6,6 +6,7 @@ use Rattle.entailment.specs.Rows.{uses, reading, premises, conclusion}
 use Rattle.closing.specs.Steps.{rows_of}
 use Rattle.closing.specs.Passes.{RowFrom, RowsClosed, RowsFrom}
 use Rattle.closing.proofs.Growing.{grown_on, spilt_on, grown_fewer, spilt_fewer, broken}
+use Rattle.closing.proofs.Insides.{stays_inside}
 use Rattle.closing.proofs.Sweeping.{is_used, swept_all}
 use Rattle.closing.proofs.passes.sweep.Goals as goal
 
@@ -60,3 +61,8 @@ returns-clause-sweeps g c =
     let n = c.loop-row.row-index in
     let all : length (rows_of r) ≤ n = omega (arith, c.loop-row-test.false, ap length c.rows_of-row-items.ensures) in
     (i.grown, swept_all r f h n all (λ k low. subst (λ (ys : List Row). RowFrom (get_or ys k RdfD2) f h) c.rows_of-row-items.ensures (i.swept k low)))
+
+pub apply-requires-clause-inside : goal.apply-requires-clause-inside
+apply-requires-clause-inside g c =
+    let store = g.S.TripleStore in
+    stays_inside c.args.regime c.args.terms (store.held c.args.store.now) (store.held c.loop-row.store) c.requires.enough c.loop-row.invariant.grown c.requires.inside

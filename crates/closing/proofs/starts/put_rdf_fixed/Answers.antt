@@ -1,4 +1,4 @@
-use Rattle.std.proofs.Common.{List, sym, subst}
+use Rattle.std.proofs.Common.{arith, List, sym, subst}
 use Rattle.std.specs.List.{AllByRecursion}
 use Rattle.triples.specs.declared.triple.Triple.{Triple}
 use Rattle.triples.specs.Codes.{Inside}
@@ -10,7 +10,7 @@ pub put_all-requires : goal.put_all-requires
 put_all-requires g c =
     let store = g.S.TripleStore in
     let n = store.side_of c.args.store.now in
-    subst (λ (ts : List Triple). AllByRecursion (Inside n) ts) (sym c.rdf_fixed.ensures) (rdf_fixed-inside n (store.lawful c.args.store.now).wide)
+    subst (λ (ts : List Triple). AllByRecursion (Inside n) ts) (sym c.rdf_fixed.ensures) (rdf_fixed-inside n (let wide = (store.lawful c.args.store.now).wide in omega arith))
 
 pub returns-clause-puts : goal.returns-clause-puts
 returns-clause-puts g c =
