@@ -1,6 +1,7 @@
 -- The steps are the rows: what follows from premises that fit lies in each set closed under the row, and when each pair that
 -- fits is done, so is each reading.
-use Rattle.std.proofs.Common.{◌≡◌, ℕ, ◌≤◌, true, [], ◌∷◌, get_or, refl, sym, ap, ◌∙◌, arith}
+use Rattle.std.proofs.Common.{◌≡◌, ℕ, ◌<◌, ◌≤◌, true, [], ◌∷◌, get_or, refl, sym, ap, ◌∙◌, arith, Some, None, subst}
+use Rattle.std.specs.List.{AllByRecursion}
 use Rattle.triples.specs.declared.triple.Triple.{Triple}
 use Rattle.triples.specs.Codes.{Inside}
 use Rattle.triples.specs.Sets.{Graph}
@@ -9,12 +10,14 @@ use Rattle.triples.proofs.Triples.{triple_eq}
 use Rattle.entailment.specs.declared.regime.Row.{Row}
 use Rattle.entailment.specs.declared.regime.Row.TheVariants.{RdfD2, Rdfs2, Rdfs3, Rdfs4a, Rdfs4b, Rdfs5, Rdfs6, Rdfs7, Rdfs8, Rdfs9, Rdfs10, Rdfs11, Rdfs12, Rdfs13}
 use Rattle.entailment.specs.Vocabulary.{#type, #Property, #Class, #Datatype, #CMP, #domain, #range, #subClassOf, #subPropertyOf}
-use Rattle.entailment.specs.Rows.{triple}
-use Rattle.closing.specs.Steps.{first_of, Partner, conclusion_of}
-use Rattle.closing.specs.Passes.{RowFrom, RowClosed, PartnersFrom}
+use Rattle.entailment.specs.Rows.{triple, reading, premises, conclusion}
+use Rattle.closing.specs.declared.rows.Part.{Part}
+use Rattle.closing.specs.declared.rows.Part.TheVariants.{Subject, Predicate, Object}
+use Rattle.closing.specs.Steps.{first_of, Partner, conclusion_of, part_of, term_at}
+use Rattle.closing.specs.Passes.{RowFrom, RowClosed, PartnersFrom, TermFrom, OfFirst}
 
 -- a conclusion has no numbers but its premises' and the vocabulary's
-pub conclusion-inside : (n : ℕ) → 32 ≤ n → (t u : Triple) → Inside n t → Inside n u → (row : Row) → Inside n (conclusion_of row t u)
+pub conclusion-inside : (n : ℕ) → 30 ≤ n → (t u : Triple) → Inside n t → Inside n u → (row : Row) → Inside n (conclusion_of row t u)
 conclusion-inside n w t u i j RdfD2 = (omega arith, omega arith, omega arith)
 conclusion-inside n w t u i j Rdfs2 = (omega arith, omega arith, omega arith)
 conclusion-inside n w t u i j Rdfs3 = (omega arith, omega arith, omega arith)
@@ -72,3 +75,37 @@ row_from Rdfs10 f g d σ h = d (triple (σ 2) #type #Class) h.0 (tt, refl, refl)
 row_from Rdfs11 f g d σ h = d (triple (σ 2) #subClassOf (σ 3)) h.0 (tt, refl, tt) (triple (σ 3) #subClassOf (σ 4)) h.1.0 (refl, refl, tt)
 row_from Rdfs12 f g d σ h = d (triple (σ 0) #type #CMP) h.0 (tt, refl, refl) _ h.0 refl
 row_from Rdfs13 f g d σ h = d (triple (σ 2) #type #Datatype) h.0 (tt, refl, refl) _ h.0 refl
+
+-- so a reading of the conclusion is inside where those of the premises are
+pub reading-inside : (n : ℕ) → 30 ≤ n → (row : Row) (σ : ℕ → ℕ) → AllByRecursion (λ p. Inside n (reading σ p)) (premises row) → Inside n (reading σ (conclusion row))
+reading-inside n w RdfD2 σ h = (omega arith, omega arith, omega arith)
+reading-inside n w Rdfs2 σ h = (omega arith, omega arith, omega arith)
+reading-inside n w Rdfs3 σ h = (omega arith, omega arith, omega arith)
+reading-inside n w Rdfs4a σ h = (omega arith, omega arith, omega arith)
+reading-inside n w Rdfs4b σ h = (omega arith, omega arith, omega arith)
+reading-inside n w Rdfs5 σ h = (omega arith, omega arith, omega arith)
+reading-inside n w Rdfs6 σ h = (omega arith, omega arith, omega arith)
+reading-inside n w Rdfs7 σ h = (omega arith, omega arith, omega arith)
+reading-inside n w Rdfs8 σ h = (omega arith, omega arith, omega arith)
+reading-inside n w Rdfs9 σ h = (omega arith, omega arith, omega arith)
+reading-inside n w Rdfs10 σ h = (omega arith, omega arith, omega arith)
+reading-inside n w Rdfs11 σ h = (omega arith, omega arith, omega arith)
+reading-inside n w Rdfs12 σ h = (omega arith, omega arith, omega arith)
+reading-inside n w Rdfs13 σ h = (omega arith, omega arith, omega arith)
+
+-- a row whose conclusion speaks of one part has one premise
+only_premise : (row : Row) (part : Part) → part_of row ≡ Some part → (t u : Triple) → Partner row t u → u ≡ t
+only_premise RdfD2 part e t u par = par
+only_premise Rdfs4a part e t u par = par
+only_premise Rdfs4b part e t u par = par
+only_premise row part e t u par = let wrong : None ≡ Some part = e in cc
+
+-- all terms done are all premises done
+pub terms_do : (row : Row) (part : Part) (n : ℕ) (f g : Graph) → part_of row ≡ Some part → OfFirst n f → ((k : ℕ) → k < n → TermFrom row part k f g) → FirstsFrom row f g
+terms_do row part n f g e inside done t i fit u j par =
+    subst (λ x. g (conclusion_of row t x) ≡ true) (sym (only_premise row part e t u par)) (done (term_at part t) (term_below part n t (inside t i)) t i refl)
+  where
+    term_below : (p : Part) (n : ℕ) (t : Triple) → Inside n t → term_at p t < n
+    term_below Subject n t h = h.0
+    term_below Predicate n t h = h.1
+    term_below Object n t h = h.2

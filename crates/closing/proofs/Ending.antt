@@ -19,7 +19,7 @@ use Rattle.entailment.proofs.Basics.{all-premises}
 use Rattle.entailment.proofs.Counting.{passed, exceeds_by_size}
 use Rattle.entailment.proofs.Saturation.{closure_exists}
 use Rattle.closing.specs.declared.kinds.TermKind.{TermKind}
-use Rattle.closing.specs.declared.closing.Refusal.TheVariants.{Full}
+use Rattle.closing.specs.declared.refusal.Refusal.TheVariants.{Full}
 use Rattle.closing.specs.Kinds.{kind}
 use Rattle.closing.specs.Passes.{Within, Grown, Spilt}
 use Rattle.closing.specs.Seeds.{HoldsClosed}

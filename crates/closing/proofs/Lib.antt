@@ -7,4 +7,5 @@ pub mod Walking
 pub mod Sweeping
 pub mod KindsOfTerms
 pub mod StartSets
+pub mod Insides
 pub mod Ending

@@ -8,8 +8,8 @@ use Rattle.entailment.specs.Terms.{Term, thirty}
 use Rattle.entailment.specs.Closure.{Closure, Exceeds}
 use Rattle.entailment.specs.Entailment.{OfTerms}
 use Rattle.closing.specs.declared.kinds.TermKind.{TermKind}
-use Rattle.closing.specs.declared.closing.Refusal.{Refusal}
-use Rattle.closing.specs.declared.closing.Refusal.TheVariants.{Outside, Full}
+use Rattle.closing.specs.declared.refusal.Refusal.{Refusal}
+use Rattle.closing.specs.declared.refusal.Refusal.TheVariants.{Outside, Full}
 use Rattle.closing.specs.Kinds.{kind}
 
 -- the number of a refusal

@@ -1,5 +1,5 @@
 -- An inner device: how a set grows while a store is filled. No public contract ends on it. Assumes nothing.
-use Rattle.std.specs.Prelude.{◌≡◌, ℕ, ◌≤◌, true, false, T, Ok, Err, Result, List}
+use Rattle.std.specs.Prelude.{◌≡◌, ℕ, ◌<◌, ◌≤◌, Bool, true, false, T, Ok, Err, Result, List, Decides}
 use Rattle.std.specs.List.{AllByRecursion}
 use Rattle.triples.specs.declared.triple.Triple.{Triple}
 use Rattle.triples.specs.Codes.{width, Inside}
@@ -8,7 +8,8 @@ use Rattle.entailment.specs.declared.regime.Regime.{Regime}
 use Rattle.entailment.specs.declared.regime.Row.{Row}
 use Rattle.entailment.specs.Rows.{premises, conclusion, reading, uses}
 use Rattle.closing.specs.declared.passes.NoRoom.{NoRoom}
-use Rattle.closing.specs.Steps.{Partner, conclusion_of}
+use Rattle.closing.specs.declared.rows.Part.{Part}
+use Rattle.closing.specs.Steps.{Partner, conclusion_of, term_at}
 
 -- each triple of f is in g
 abbrev pub Within : Graph → Graph → Type 0
@@ -47,20 +48,26 @@ RowFrom row f g = (σ : ℕ → ℕ) → AllByRecursion (λ p. f (reading σ p) 
 abbrev pub PartnersFrom : Row → Triple → Graph → Graph → Type 0
 PartnersFrom row t f g = (u : Triple) → f u ≡ true → Partner row t u → g (conclusion_of row t u) ≡ true
 
--- the same where the regime has the row
-abbrev pub UsedFrom : Regime → Row → Graph → Graph → Type 0
-UsedFrom r row f g = T (uses r row) → RowFrom row f g
+-- the same of premises with one term at a part
+abbrev pub TermFrom : Row → Part → ℕ → Graph → Graph → Type 0
+TermFrom row part n f g = (t : Triple) → f t ≡ true → term_at part t ≡ n → g (conclusion_of row t t) ≡ true
+
+-- each triple of the set is of the first n terms
+abbrev pub OfFirst : ℕ → Graph → Type 0
+OfFirst n f = (t : Triple) → f t ≡ true → Inside n t
 
 -- the same of each row of the regime
 abbrev pub RowsFrom : Regime → Graph → Graph → Type 0
-RowsFrom r f g = (row : Row) → UsedFrom r row f g
+RowsFrom r f g = (row : Row) → T (uses r row) → RowFrom row f g
 
--- the set is closed under the row; under the row where the regime has it; under the regime's rows
+-- the set is closed under the row; under the regime's rows
 abbrev pub RowClosed : Row → Graph → Type 0
 RowClosed row f = RowFrom row f f
 
-abbrev pub UsedClosed : Regime → Row → Graph → Type 0
-UsedClosed r row f = UsedFrom r row f f
-
 abbrev pub RowsClosed : Regime → Graph → Type 0
 RowsClosed r f = RowsFrom r f f
+
+-- a sweep grew f to g at the capacity m, and tells whether it added anything; or there was no room
+abbrev pub Swept : Regime → ℕ → Graph → Graph → Result Bool NoRoom → Type 0
+Swept r m f g (Ok b) = Grown (RowsClosed r) f g × RowsFrom r f g × Decides b (size f < size g)
+Swept r m f g (Err e) = Grown (RowsClosed r) f g × Spilt (RowsClosed r) m f g

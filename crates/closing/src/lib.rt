@@ -5,6 +5,7 @@
 pub mod closing;
 pub mod kinds;
 mod passes;
+pub mod refusal;
 mod rows;
 mod starts;
 mod vocabulary;

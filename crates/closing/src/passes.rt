@@ -1,16 +1,18 @@
 // Passes: each puts into the store what follows from what it holds. A pass only adds. The conclusion of premises that are in
 // the store when it begins is there when it ends, or there is no room.
-ghost use Rattle.std.specs.Prelude.{◌≡◌, true, Some};
+ghost use Rattle.std.specs.Prelude.{◌≡◌, ◌≤◌, true, Some};
 ghost use Rattle.triples.specs.Codes.{Inside};
 ghost use Rattle.triples.specs.Questions.{Fits};
-ghost use Rattle.closing.specs.Steps.{first_of, second_of, conclusion_of, Partner};
-ghost use Rattle.closing.specs.Passes.{Outcome, Holds, RowFrom, PartnersFrom, UsedFrom, RowsFrom, RowClosed, UsedClosed, RowsClosed};
+ghost use Rattle.closing.specs.Steps.{first_of, second_of, conclusion_of, part_of, Partner};
+ghost use Rattle.closing.specs.Passes.{Outcome, Swept, Holds, RowFrom, PartnersFrom, TermFrom, OfFirst, RowsFrom, RowClosed, RowsClosed};
 
-use crate::rows::{conclude, first_pattern, second_pattern};
-use entailment::regime::{ROWS, Regime, Row};
+use crate::rows::{
+    Part, by_part, conclude, first_pattern, is_idle, part_of, rows_of, second_pattern,
+};
+use entailment::regime::{Regime, Row};
 use triples::question::Pattern;
 use triples::store::TripleStore;
-use triples::triple::Triple;
+use triples::triple::{TermNumber, Triple};
 use walks::step::{after, first};
 
 // There is no room for a triple that belongs in the store.
@@ -78,14 +80,17 @@ fn apply_to<S: TripleStore>(store: &mut S, row: Row, premise: Triple) -> Result<
     ensures capacity { S.TripleStore.capacity_of store.new ≡ S.TripleStore.capacity_of store.old }
     ensures enters { Outcome (RowClosed row) (PartnersFrom row premise (S.TripleStore.held store.old) (S.TripleStore.held store.new)) (S.TripleStore.capacity_of store.new) (S.TripleStore.held store.old) (S.TripleStore.held store.new) result }
 {
+    if is_idle(row, premise) {
+        return Ok(());
+    }
     match second_pattern(row, premise) {
         None => enter(store, row, premise, premise),
         Some(pattern) => enter_with_each(store, row, premise, pattern),
     }
 }
 
-// Puts in what follows by the row.
-fn apply<S: TripleStore>(store: &mut S, row: Row) -> Result<(), NoRoom>
+// Puts in what follows by the row, one first premise after another.
+fn apply_by_triples<S: TripleStore>(store: &mut S, row: Row) -> Result<(), NoRoom>
     ensures side { S.TripleStore.side_of store.new ≡ S.TripleStore.side_of store.old }
     ensures capacity { S.TripleStore.capacity_of store.new ≡ S.TripleStore.capacity_of store.old }
     ensures applies { Outcome (RowClosed row) (RowFrom row (S.TripleStore.held store.old) (S.TripleStore.held store.new)) (S.TripleStore.capacity_of store.new) (S.TripleStore.held store.old) (S.TripleStore.held store.new) result }
@@ -99,42 +104,96 @@ fn apply<S: TripleStore>(store: &mut S, row: Row) -> Result<(), NoRoom>
     Ok(())
 }
 
-// The same, where the regime has the row.
-fn apply_used<S: TripleStore>(store: &mut S, regime: Regime, row: Row) -> Result<(), NoRoom>
+// Puts in what follows by the row from the triples with a term at the part that its conclusion speaks of.
+fn enter_for_term<S: TripleStore>(
+    store: &mut S,
+    row: Row,
+    part: Part,
+    term: TermNumber,
+) -> Result<(), NoRoom>
+    requires { part_of row ≡ Some part }
     ensures side { S.TripleStore.side_of store.new ≡ S.TripleStore.side_of store.old }
     ensures capacity { S.TripleStore.capacity_of store.new ≡ S.TripleStore.capacity_of store.old }
-    ensures applies { Outcome (UsedClosed regime row) (UsedFrom regime row (S.TripleStore.held store.old) (S.TripleStore.held store.new)) (S.TripleStore.capacity_of store.new) (S.TripleStore.held store.old) (S.TripleStore.held store.new) result }
+    ensures enters { Outcome (RowClosed row) (TermFrom row part term (S.TripleStore.held store.old) (S.TripleStore.held store.new)) (S.TripleStore.capacity_of store.new) (S.TripleStore.held store.old) (S.TripleStore.held store.new) result }
 {
-    if regime.has_row(row) {
-        apply(store, row)
-    } else {
-        Ok(())
+    match first(store, by_part(part, term)) {
+        None => Ok(()),
+        Some(premise) => enter(store, row, premise, premise),
     }
 }
 
-// Puts in what follows by each row of the regime in turn.
-fn sweep<S: TripleStore>(store: &mut S, regime: Regime) -> Result<(), NoRoom>
+// Puts in what follows by the row, one term after another.
+fn apply_by_terms<S: TripleStore>(
+    store: &mut S,
+    row: Row,
+    part: Part,
+    terms: usize,
+) -> Result<(), NoRoom>
+    requires part { part_of row ≡ Some part }
+    requires few { terms ≤ 256 }
+    requires inside { OfFirst terms (S.TripleStore.held store.old) }
     ensures side { S.TripleStore.side_of store.new ≡ S.TripleStore.side_of store.old }
     ensures capacity { S.TripleStore.capacity_of store.new ≡ S.TripleStore.capacity_of store.old }
-    ensures sweeps { Outcome (RowsClosed regime) (RowsFrom regime (S.TripleStore.held store.old) (S.TripleStore.held store.new)) (S.TripleStore.capacity_of store.new) (S.TripleStore.held store.old) (S.TripleStore.held store.new) result }
+    ensures applies { Outcome (RowClosed row) (RowFrom row (S.TripleStore.held store.old) (S.TripleStore.held store.new)) (S.TripleStore.capacity_of store.new) (S.TripleStore.held store.old) (S.TripleStore.held store.new) result }
 {
-    for row in ROWS {
-        apply_used(store, regime, row)?;
+    for term in 0..terms {
+        enter_for_term(store, row, part, term as TermNumber)?;
     }
     Ok(())
 }
 
+// Puts in what follows by the row, by terms where they are fewer than the triples.
+fn apply<S: TripleStore>(store: &mut S, row: Row, terms: usize) -> Result<(), NoRoom>
+    requires few { terms ≤ 256 }
+    requires inside { OfFirst terms (S.TripleStore.held store.old) }
+    ensures side { S.TripleStore.side_of store.new ≡ S.TripleStore.side_of store.old }
+    ensures capacity { S.TripleStore.capacity_of store.new ≡ S.TripleStore.capacity_of store.old }
+    ensures applies { Outcome (RowClosed row) (RowFrom row (S.TripleStore.held store.old) (S.TripleStore.held store.new)) (S.TripleStore.capacity_of store.new) (S.TripleStore.held store.old) (S.TripleStore.held store.new) result }
+{
+    match part_of(row) {
+        Some(part) if terms < store.count() => apply_by_terms(store, row, part, terms),
+        _ => apply_by_triples(store, row),
+    }
+}
+
+// Puts in what follows by each row of the regime in turn.
+fn sweep<S: TripleStore>(store: &mut S, regime: Regime, terms: usize) -> Result<(), NoRoom>
+    requires enough { 30 ≤ terms }
+    requires few { terms ≤ 256 }
+    requires inside { OfFirst terms (S.TripleStore.held store.old) }
+    ensures side { S.TripleStore.side_of store.new ≡ S.TripleStore.side_of store.old }
+    ensures capacity { S.TripleStore.capacity_of store.new ≡ S.TripleStore.capacity_of store.old }
+    ensures sweeps { Outcome (RowsClosed regime) (RowsFrom regime (S.TripleStore.held store.old) (S.TripleStore.held store.new)) (S.TripleStore.capacity_of store.new) (S.TripleStore.held store.old) (S.TripleStore.held store.new) result }
+{
+    for row in rows_of(regime) {
+        apply(store, *row, terms)?;
+    }
+    Ok(())
+}
+
+// The same, and tells whether anything was added.
+fn sweep_adds<S: TripleStore>(store: &mut S, regime: Regime, terms: usize) -> Result<bool, NoRoom>
+    requires enough { 30 ≤ terms }
+    requires few { terms ≤ 256 }
+    requires inside { OfFirst terms (S.TripleStore.held store.old) }
+    ensures side { S.TripleStore.side_of store.new ≡ S.TripleStore.side_of store.old }
+    ensures capacity { S.TripleStore.capacity_of store.new ≡ S.TripleStore.capacity_of store.old }
+    ensures sweeps { Swept regime (S.TripleStore.capacity_of store.new) (S.TripleStore.held store.old) (S.TripleStore.held store.new) result }
+{
+    let before = store.count();
+    sweep(store, regime, terms)?;
+    Ok(before < store.count())
+}
+
 // Sweeps until a sweep adds nothing.
-pub fn saturate<S: TripleStore>(store: &mut S, regime: Regime) -> Result<(), NoRoom>
+pub fn saturate<S: TripleStore>(store: &mut S, regime: Regime, terms: usize) -> Result<(), NoRoom>
+    requires enough { 30 ≤ terms }
+    requires few { terms ≤ 256 }
+    requires inside { OfFirst terms (S.TripleStore.held store.old) }
     ensures side { S.TripleStore.side_of store.new ≡ S.TripleStore.side_of store.old }
     ensures capacity { S.TripleStore.capacity_of store.new ≡ S.TripleStore.capacity_of store.old }
     ensures saturates { Outcome (RowsClosed regime) (RowsClosed regime (S.TripleStore.held store.new)) (S.TripleStore.capacity_of store.new) (S.TripleStore.held store.old) (S.TripleStore.held store.new) result }
 {
-    loop {
-        let before = store.count();
-        sweep(store, regime)?;
-        if store.count() == before {
-            return Ok(());
-        }
-    }
+    while sweep_adds(store, regime, terms)? {}
+    Ok(())
 }

@@ -1,15 +1,26 @@
 // The rows as the passes take them: what is asked of a row's premises, and its conclusion. A row of one premise asks for no
 // second, and is given its premise twice.
-ghost use Rattle.std.specs.Prelude.{◌≡◌};
-ghost use Rattle.closing.specs.Steps.{first_of, second_of, conclusion_of, by_predicate, by_type};
+ghost use Rattle.std.specs.Prelude.{◌≡◌, ◌&&◌, ◌==◌};
+ghost use Rattle.closing.specs.Steps.{rows_of, first_of, second_of, conclusion_of, by_predicate, by_type, by_part, part_of, repeats};
 
 use crate::vocabulary::{
     CLASS, CMP, DATATYPE, DOMAIN, LITERAL, MEMBER, PROPERTY, RANGE, RESOURCE, SUB_CLASS_OF,
     SUB_PROPERTY_OF, TYPE,
 };
-use entailment::regime::Row;
+use entailment::regime::{ROWS, Regime, Row};
 use triples::question::Pattern;
 use triples::triple::{TermNumber, Triple};
+
+// The rows of a regime.
+pub fn rows_of(regime: Regime) -> &'static [Row]
+    ensures { result.now ≡ rows_of regime }
+{
+    match regime {
+        Regime::Simple => &[],
+        Regime::Rdf => &[Row::RdfD2],
+        Regime::Rdfs => &ROWS,
+    }
+}
 
 // Asks for a predicate.
 fn by_predicate(predicate: TermNumber) -> Pattern
@@ -90,5 +101,58 @@ pub fn conclude(row: Row, first: Triple, second: Triple) -> Triple
         subject,
         predicate,
         object,
+    }
+}
+
+// Whether the row's conclusion is its second premise, where the first premise has one term at both ends.
+fn repeats(row: Row) -> bool
+    ensures { result ≡ repeats row }
+{
+    matches!(row, Row::Rdfs5 | Row::Rdfs7 | Row::Rdfs9 | Row::Rdfs11)
+}
+
+// Whether nothing new follows by the row from this first premise.
+pub fn is_idle(row: Row, first: Triple) -> bool
+    ensures { result ≡ (repeats row && (first.subject == first.object)) }
+{
+    repeats(row) && first.subject == first.object
+}
+
+// A part of a triple.
+#[derive(Clone, Copy)]
+pub enum Part {
+    Subject,
+    Predicate,
+    Object,
+}
+
+// The one part of the premise that the conclusion speaks of, of a row that takes every triple as its premise.
+pub fn part_of(row: Row) -> Option<Part>
+    ensures { result ≡ part_of row }
+{
+    match row {
+        Row::RdfD2 => Some(Part::Predicate),
+        Row::Rdfs4a => Some(Part::Subject),
+        Row::Rdfs4b => Some(Part::Object),
+        _ => None,
+    }
+}
+
+// Asks for a term at a part.
+pub fn by_part(part: Part, term: TermNumber) -> Pattern
+    ensures { result ≡ by_part part term }
+{
+    match part {
+        Part::Subject => Pattern {
+            subject: Some(term),
+            predicate: None,
+            object: None,
+        },
+        Part::Predicate => by_predicate(term),
+        Part::Object => Pattern {
+            subject: None,
+            predicate: None,
+            object: Some(term),
+        },
     }
 }

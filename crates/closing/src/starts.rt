@@ -4,6 +4,7 @@ ghost use Rattle.std.specs.List.{AllByRecursion};
 ghost use Rattle.std.proofs.Common.{get_or};
 ghost use Rattle.triples.specs.Codes.{Inside};
 ghost use Rattle.entailment.specs.Rows.{triple};
+ghost use Rattle.entailment.specs.Starts.{rdf_fixed, rdfs_fixed};
 ghost use Rattle.closing.specs.Passes.{Outcome, HoldsAll};
 ghost use Rattle.closing.specs.Seeds.{all_kinds, picks, HoldsEach, HoldsRdf, HoldsRdfs, HoldsStart, HoldsSeed};
 ghost use Rattle.closing.specs.declared.kinds.TermKind.TheVariants.{Blank as BlankKind};
@@ -50,6 +51,18 @@ const RDFS_FIXED: [Triple; 38] = table! {
     SUB_PROPERTY_OF SEE_ALSO: IS_DEFINED_BY;
 };
 
+fn rdf_fixed() -> &'static [Triple]
+    ensures { result.now ≡ rdf_fixed }
+{
+    &RDF_FIXED
+}
+
+fn rdfs_fixed() -> &'static [Triple]
+    ensures { result.now ≡ rdfs_fixed }
+{
+    &RDFS_FIXED
+}
+
 // Which terms a part of a start set speaks of.
 #[derive(Clone, Copy)]
 enum Which {
@@ -95,6 +108,24 @@ fn put_all<S: TripleStore>(store: &mut S, list: &[Triple]) -> Result<(), NoRoom>
     Ok(())
 }
 
+// Puts in what the RDF start set has over every book.
+fn put_rdf_fixed<S: TripleStore>(store: &mut S) -> Result<(), NoRoom>
+    ensures side { S.TripleStore.side_of store.new ≡ S.TripleStore.side_of store.old }
+    ensures capacity { S.TripleStore.capacity_of store.new ≡ S.TripleStore.capacity_of store.old }
+    ensures puts { Outcome (HoldsAll rdf_fixed) (HoldsAll rdf_fixed (S.TripleStore.held store.new)) (S.TripleStore.capacity_of store.new) (S.TripleStore.held store.old) (S.TripleStore.held store.new) result }
+{
+    put_all(store, rdf_fixed())
+}
+
+// Puts in what the RDFS start set adds over every book.
+fn put_rdfs_fixed<S: TripleStore>(store: &mut S) -> Result<(), NoRoom>
+    ensures side { S.TripleStore.side_of store.new ≡ S.TripleStore.side_of store.old }
+    ensures capacity { S.TripleStore.capacity_of store.new ≡ S.TripleStore.capacity_of store.old }
+    ensures puts { Outcome (HoldsAll rdfs_fixed) (HoldsAll rdfs_fixed (S.TripleStore.held store.new)) (S.TripleStore.capacity_of store.new) (S.TripleStore.held store.old) (S.TripleStore.held store.new) result }
+{
+    put_all(store, rdfs_fixed())
+}
+
 // Puts a triple in where it is wanted.
 fn put_if<S: TripleStore>(store: &mut S, wanted: bool, triple: Triple) -> Result<(), NoRoom>
     requires { Inside (S.TripleStore.side_of store.old) triple }
@@ -138,7 +169,7 @@ fn put_rdf<S: TripleStore>(store: &mut S, more: &[TermKind]) -> Result<(), NoRoo
     ensures capacity { S.TripleStore.capacity_of store.new ≡ S.TripleStore.capacity_of store.old }
     ensures puts { Outcome (HoldsRdf more.now) (HoldsRdf more.now (S.TripleStore.held store.new)) (S.TripleStore.capacity_of store.new) (S.TripleStore.held store.old) (S.TripleStore.held store.new) result }
 {
-    put_all(store, &RDF_FIXED)?;
+    put_rdf_fixed(store)?;
     put_each(store, more, Which::Positions, TYPE, PROPERTY)
 }
 
@@ -149,7 +180,7 @@ fn put_rdfs<S: TripleStore>(store: &mut S, more: &[TermKind]) -> Result<(), NoRo
     ensures capacity { S.TripleStore.capacity_of store.new ≡ S.TripleStore.capacity_of store.old }
     ensures puts { Outcome (HoldsRdfs more.now) (HoldsRdfs more.now (S.TripleStore.held store.new)) (S.TripleStore.capacity_of store.new) (S.TripleStore.held store.old) (S.TripleStore.held store.new) result }
 {
-    put_all(store, &RDFS_FIXED)?;
+    put_rdfs_fixed(store)?;
     put_each(store, more, Which::Names, TYPE, RESOURCE)?;
     put_each(store, more, Which::Positions, TYPE, CMP)?;
     put_each(store, more, Which::Positions, DOMAIN, RESOURCE)?;

@@ -1,8 +1,9 @@
 // A small graph of the halls, closed over the list store and over the cube in each regime, and the sets compared triple by triple
 // with each other and with what a script of its own computed.
 use crate::expected::{HALLS_RDF, HALLS_RDFS, HALLS_SIMPLE};
-use closing::closing::{Refusal, close};
+use closing::closing::close;
 use closing::kinds::TermKind;
+use closing::refusal::Refusal;
 use counting_store::CountingStore;
 use cube_store::cube::CubeStore;
 use entailment::regime::Regime;

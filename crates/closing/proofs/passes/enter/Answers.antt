@@ -1,4 +1,4 @@
-use Rattle.std.proofs.Common.{sym, subst}
+use Rattle.std.proofs.Common.{arith, sym, subst}
 use Rattle.triples.specs.declared.triple.Triple.{Triple}
 use Rattle.triples.specs.Codes.{Inside}
 use Rattle.closing.specs.Steps.{conclusion_of}
@@ -14,7 +14,7 @@ put-requires g c =
     let law = store.lawful s in
     let a = c.args in
     subst (λ (x : Triple). Inside (store.side_of s) x) (sym c.conclude.ensures)
-    (conclusion-inside (store.side_of s) law.wide a.premise a.second (law.within a.premise c.requires.premise_held) (law.within a.second c.requires.second_held) a.row)
+    (conclusion-inside (store.side_of s) (let wide = law.wide in omega arith) a.premise a.second (law.within a.premise c.requires.premise_held) (law.within a.second c.requires.second_held) a.row)
 
 pub returns-clause-enters : goal.returns-clause-enters
 returns-clause-enters g c =

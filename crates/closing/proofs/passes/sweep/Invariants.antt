@@ -1,6 +1,6 @@
-use Rattle.std.proofs.Common.{◌≡◌, ℕ, ◌<◌}
-use Rattle.closing.specs.Passes.{Grown, RowsClosed, UsedFrom}
-use Rattle.closing.proofs.Sweeping.{row_at}
+use Rattle.std.proofs.Common.{◌≡◌, ℕ, ◌<◌, get_or}
+use Rattle.closing.specs.Passes.{Grown, RowsClosed, RowFrom}
+use Rattle.entailment.specs.declared.regime.Row.TheVariants.{RdfD2}
 use Rattle.closing.proofs.passes.sweep.Given as goal
 
 abbrev pub invariant-loop-row : goal.invariant-loop-row
@@ -11,6 +11,6 @@ invariant-loop-row g l =
     record {
       side : store.side_of l.store ≡ store.side_of l.initial.store;
       capacity : store.capacity_of l.store ≡ store.capacity_of l.initial.store;
-      grown : Grown (RowsClosed l.regime) f h;
-      swept : (k : ℕ) → k < l.row-index → UsedFrom l.regime (row_at k) f h;
+      grown : Grown (RowsClosed l.fn.regime) f h;
+      swept : (k : ℕ) → k < l.row-index → RowFrom (get_or l.row-items k RdfD2) f h;
     }

@@ -7,20 +7,20 @@ use Rattle.closing.proofs.Growing.{broken}
 use Rattle.closing.proofs.Filling.{first_broken, last_part, filled_on, spilt_after, all_stay, each_stay}
 use Rattle.closing.proofs.starts.put_rdfs.Goals as goal
 
-pub returns-in_err-put_all-clause-puts : goal.returns-in_err-put_all-clause-puts
-returns-in_err-put_all-clause-puts g c =
+pub returns-in_err-put_rdfs_fixed-clause-puts : goal.returns-in_err-put_rdfs_fixed-clause-puts
+returns-in_err-put_rdfs_fixed-clause-puts g c =
     let store = g.S.TripleStore in
     let ks = c.args.more.now in
-    let k = store.held c.put_all.new.store in
-    first_broken (HoldsAll rdfs_fixed) (HoldsRdfs ks) (HoldsRdfs ks k) (store.capacity_of c.put_all.new.store) (store.held c.args.store.now) k c.from_residual.result c.from_residual.ensures.0
-    (λ other d. d.0) c.in_err-put_all.ensures.puts
+    let k = store.held c.put_rdfs_fixed.new.store in
+    first_broken (HoldsAll rdfs_fixed) (HoldsRdfs ks) (HoldsRdfs ks k) (store.capacity_of c.put_rdfs_fixed.new.store) (store.held c.args.store.now) k c.from_residual.result c.from_residual.ensures.0
+    (λ other d. d.0) c.in_err-put_rdfs_fixed.ensures.puts
 
 pub returns-in_err-put_each-clause-puts : goal.returns-in_err-put_each-clause-puts
 returns-in_err-put_each-clause-puts g c =
     let store = g.S.TripleStore in
     let ks = c.args.more.now in
     let k = store.held c.put_each.new.store in
-    let a = c.in_ok-put_all.ensures.puts in
+    let a = c.in_ok-put_rdfs_fixed.ensures.puts in
     let b = c.in_err-put_each.ensures.puts in
     broken (HoldsRdfs ks) (HoldsRdfs ks k) (store.capacity_of c.put_each.new.store) (store.held c.args.store.now) k c.from_residual-in_err-put_each.result c.from_residual-in_err-put_each.ensures.0
     (filled_on (λ other d. d.0) (λ other d. d.1) a.0 b.0) (spilt_after (λ other d. d.0) (λ other d. d.1) a.0 b.1)
@@ -30,7 +30,7 @@ returns-in_err-put_each-2-clause-puts g c =
     let store = g.S.TripleStore in
     let ks = c.args.more.now in
     let k = store.held c.put_each-2.new.store in
-    let a = filled_on {C = HoldsRdfs ks} (λ other d. d.0) (λ other d. d.1) c.in_ok-put_all.ensures.puts.0 c.in_ok-put_each.ensures.puts.0 in
+    let a = filled_on {C = HoldsRdfs ks} (λ other d. d.0) (λ other d. d.1) c.in_ok-put_rdfs_fixed.ensures.puts.0 c.in_ok-put_each.ensures.puts.0 in
     let b = c.in_err-put_each-2.ensures.puts in
     broken (HoldsRdfs ks) (HoldsRdfs ks k) (store.capacity_of c.put_each-2.new.store) (store.held c.args.store.now) k c.from_residual-in_err-put_each-2.result c.from_residual-in_err-put_each-2.ensures.0
     (filled_on (λ other d. d) (λ other d. d.2) a b.0) (spilt_after (λ other d. d) (λ other d. d.2) a b.1)
@@ -40,7 +40,7 @@ returns-in_err-put_each-3-clause-puts g c =
     let store = g.S.TripleStore in
     let ks = c.args.more.now in
     let k = store.held c.put_each-3.new.store in
-    let a = filled_on {C = HoldsRdfs ks} (λ other d. d.0) (λ other d. d.1) c.in_ok-put_all.ensures.puts.0 c.in_ok-put_each.ensures.puts.0 in
+    let a = filled_on {C = HoldsRdfs ks} (λ other d. d.0) (λ other d. d.1) c.in_ok-put_rdfs_fixed.ensures.puts.0 c.in_ok-put_each.ensures.puts.0 in
     let b = filled_on {C = HoldsRdfs ks} (λ other d. d) (λ other d. d.2) a c.in_ok-put_each-2.ensures.puts.0 in
     let e = c.in_err-put_each-3.ensures.puts in
     broken (HoldsRdfs ks) (HoldsRdfs ks k) (store.capacity_of c.put_each-3.new.store) (store.held c.args.store.now) k c.from_residual-in_err-put_each-3.result c.from_residual-in_err-put_each-3.ensures.0
@@ -50,11 +50,11 @@ pub returns-clause-puts : goal.returns-clause-puts
 returns-clause-puts g c =
     let store = g.S.TripleStore in
     let ks = c.args.more.now in
-    let p = c.in_ok-put_all.ensures.puts in
+    let p = c.in_ok-put_rdfs_fixed.ensures.puts in
     let q = c.in_ok-put_each.ensures.puts in
     let r = c.in_ok-put_each-2.ensures.puts in
     let s = c.in_ok-put_each-3.ensures.puts in
-    let g₁ = store.held c.put_all.new.store in
+    let g₁ = store.held c.put_rdfs_fixed.new.store in
     let g₂ = store.held c.put_each.new.store in
     let g₃ = store.held c.put_each-2.new.store in
     let g₄ = store.held c.put_each-3.new.store in

@@ -1,7 +1,7 @@
 use Rattle.std.proofs.Common.{◌≡◌}
 use Rattle.closing.specs.Passes.{Grown, RowClosed, PartnersFrom}
 use Rattle.closing.proofs.Walking.{Current, Walked, left}
-use Rattle.closing.proofs.passes.apply.Given as goal
+use Rattle.closing.proofs.passes.apply_by_triples.Given as goal
 
 abbrev pub invariant-loop-candidate : goal.invariant-loop-candidate
 invariant-loop-candidate g l =

@@ -9,7 +9,7 @@ use Rattle.closing.specs.Passes.{RowClosed, RowFrom, PartnersFrom}
 use Rattle.closing.proofs.Growing.{grown_on, spilt_on, broken}
 use Rattle.closing.proofs.Conclusions.{row_from}
 use Rattle.closing.proofs.Walking.{Current, Walked, next_current, walk_steps}
-use Rattle.closing.proofs.passes.apply.Goals as goal
+use Rattle.closing.proofs.passes.apply_by_triples.Goals as goal
 
 pub returns-in_err-apply_to-clause-applies : goal.returns-in_err-apply_to-clause-applies
 returns-in_err-apply_to-clause-applies g c =
