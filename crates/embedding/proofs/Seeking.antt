@@ -1,8 +1,7 @@
 -- The turns of the search as its loop makes them: what is so afterwards, and that what remains falls.
 use Rattle.std.proofs.Common.{◌≡◌, ℕ, ◌<◌, ◌≤◌, true, List, [], ◌∷◌, length, Some, None, Option, refl, sym, ap, ◌∙◌, subst, ⊎_elim, arith}
 use Rattle.triples.specs.declared.triple.Triple.{Triple}
-use Rattle.triples.specs.declared.question.Pattern.{Pattern}
-use Rattle.triples.specs.Codes.{width, Inside}
+use Rattle.triples.specs.Codes.{width, Inside, code_of}
 use Rattle.triples.specs.Sets.{Graph}
 use Rattle.triples.specs.Questions.{Next}
 use Rattle.walks.specs.Steps.{past}
@@ -11,13 +10,18 @@ use Rattle.entailment.specs.Entailment.{put}
 use Rattle.embedding.specs.declared.search.Choice.{Choice}
 use Rattle.embedding.specs.declared.search.Place.{Place}
 use Rattle.embedding.specs.Embeddings.{PutsRows}
-use Rattle.embedding.specs.Bound.{Bound, pattern, unify, lowest}
+use Rattle.embedding.specs.Bound.{Bound, pattern, unify, lowest, NoneBetween}
 use Rattle.embedding.specs.Searching.{Agrees, row_at, Hopeful, Keeps, Places, Advances}
 use Rattle.embedding.proofs.Openness.{some_open}
-use Rattle.embedding.proofs.Remaining.{left_at, left_past, left_on, left_none, left_back}
+use Rattle.embedding.proofs.Remaining.{left_at, left_past, left_on, left_none, left_back, Later}
 use Rattle.embedding.proofs.Standing.{State, Going, Ready}
 use Rattle.embedding.proofs.Turns.{going, begin, arrive, kept, back, stuck, on, current_below, next_later}
 use Rattle.embedding.proofs.Choosing.{choose, chosen_less, chosen_cut}
+
+-- what is later than u is later than t before it
+later_than : (t u : Triple) → code_of t ≤ code_of u → (o : Option Triple) → Later (code_of u) o → Later (code_of t) o
+later_than t u le None later = tt
+later_than t u le (Some v) later = omega arith
 
 -- the search begins with nothing bound and no choice
 pub start : (n : ℕ) (set : Graph) (goal : List GoalRow) (bs : Bound) (cs : List Choice) (place : Option Place) → bs ≡ [] → cs ≡ [] → Hopeful set goal bs → Places set goal bs place → State n set goal bs cs place
@@ -70,13 +74,13 @@ module _ (n : ℕ) (set : Graph) (goal : List GoalRow) (bs : Bound) (cs : List C
     g = going n set goal bs cs place p (Some t) at e s
 
     -- the candidate cannot be
-    pub turn_on : es ≡ bs → ((m : ℕ → ℕ) → Agrees bs m → PutsRows set goal m → put m (row_at goal p.row) ≡ t → ⊥) → (q : Pattern) → q ≡ pattern es (row_at goal p.row) → (o : Option Triple) → Next set (past t q) o
-        → Going n set goal es cs p.row o × (left_at goal es cs (tried o) < left_at goal bs cs place)
-    turn_on same fails q asks o next =
-        let to : Next set (past t (pattern bs (row_at goal p.row))) o =
-        subst (λ (x : Pattern). Next set (past t x) o) (asks ∙ ap (λ (x : Bound). pattern x (row_at goal p.row)) same) next in
-        let less = left_past goal bs cs p.row t (current_below n set goal lawful narrow bs cs p.row t g) o (next_later set t (row_at goal p.row) bs o to) in (
-          subst (λ (x : Bound). Going n set goal x cs p.row o) (sym same) (on n set goal lawful narrow bs cs p.row t o g fails to),
+    pub turn_on : es ≡ bs → ((m : ℕ → ℕ) → Agrees bs m → PutsRows set goal m → put m (row_at goal p.row) ≡ t → ⊥) → (u : Triple) → code_of t ≤ code_of u → NoneBetween (row_at goal p.row) t u → (o : Option Triple)
+        → Next set (past u (pattern es (row_at goal p.row))) o → Going n set goal es cs p.row o × (left_at goal es cs (tried o) < left_at goal bs cs place)
+    turn_on same fails u later none o next =
+        let to : Next set (past u (pattern bs (row_at goal p.row))) o =
+        subst (λ (x : Bound). Next set (past u (pattern x (row_at goal p.row))) o) same next in
+        let less = left_past goal bs cs p.row t (current_below n set goal lawful narrow bs cs p.row t g) o (later_than t u later o (next_later set u (row_at goal p.row) bs o to)) in (
+          subst (λ (x : Bound). Going n set goal x cs p.row o) (sym same) (on n set goal lawful narrow bs cs p.row t o g fails u none to),
           omega (arith, left_same (Some t) e, ap (λ (x : Bound). left_at goal x cs (tried o)) same, less),
         )
 
@@ -101,7 +105,7 @@ module _ (n : ℕ) (set : Graph) (goal : List GoalRow) (bs : Bound) (cs : List C
     turn_advance ds next a =
         ⊎_elim
         (λ q.
-        let to = turn_on q.bindings q.fails (pattern es (row_at goal p.row)) refl q.candidate q.next in
+        let to = turn_on q.bindings q.fails q.over q.later q.none q.candidate q.next in
         subst (λ (x : Option Place). State n set goal es ds x × (left_at goal es ds x < left_at goal bs cs place)) (sym q.place)
         (subst (λ (ks : List Choice). Going n set goal es ks p.row q.candidate × (left_at goal es ks (tried q.candidate) < left_at goal bs cs place)) (sym q.choices) to))
         (λ q. turn_in q.unified q.hopeful (length bs) refl ds q.kept next q.places)

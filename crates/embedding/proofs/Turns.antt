@@ -13,7 +13,7 @@ use Rattle.entailment.specs.Entailment.{put}
 use Rattle.embedding.specs.declared.search.Choice.{Choice}
 use Rattle.embedding.specs.declared.search.Place.{Place}
 use Rattle.embedding.specs.Embeddings.{PutsRows}
-use Rattle.embedding.specs.Bound.{Bound, pattern, lowest}
+use Rattle.embedding.specs.Bound.{Bound, pattern, lowest, NoneBetween}
 use Rattle.embedding.specs.Searching.{Agrees, row_at, Hopeful, Parted, Keeps, Places}
 use Rattle.embedding.proofs.Meeting.{some_only, none_some}
 use Rattle.embedding.proofs.Fitting.{held_at, fits_row, mixed, mixed_agrees, mixed_rows}
@@ -138,13 +138,13 @@ module _ (n : ℕ) (set : Graph) (goal : List GoalRow) where
         (λ ge. inl (code_only (put m row) t (inside (put m row) (held_at bs m a set goal i low rows)) (inside t held) (omega arith)))
         (cases_lt (code_of t) (code_of (put m row)))
 
-    -- the candidate cannot be
+    -- the candidate cannot be, nor what is later, but not than u
     pub on : (bs : Bound) (cs : List Choice) (i : ℕ) (t : Triple) (o : Option Triple) → Going n set goal bs cs i (Some t) → ((m : ℕ → ℕ) → Agrees bs m → PutsRows set goal m → put m (row_at goal i) ≡ t → ⊥)
-        → Next set (past t (pattern bs (row_at goal i))) o → Going n set goal bs cs i o
-    on bs cs i t o g fails next = record {
+        → (u : Triple) → NoneBetween (row_at goal i) t u → Next set (past u (pattern bs (row_at goal i))) o → Going n set goal bs cs i o
+    on bs cs i t o g fails u none next = record {
       stands = g.stands;
       path = g.path;
-      current = next_held set (past t (pattern bs (row_at goal i))) o next;
+      current = next_held set (past u (pattern bs (row_at goal i))) o next;
       ahead = λ m rows.
           let h = g.ahead m rows in (
             h.0,
@@ -152,7 +152,7 @@ module _ (n : ℕ) (set : Graph) (goal : List GoalRow) where
             ⊎_elim
                 (λ d. ⊎_elim
                 (λ e. absurd (fails h.0 d.0 h.1 e))
-                (λ lt. inl (d.0, past_reaches bs i t o g.stands.within next h.0 h.1 d.0 lt))
+                (λ lt. inl (d.0, past_reaches bs i u o g.stands.within next h.0 h.1 d.0 (none h.0 (inside (put h.0 (row_at goal i)) (held_at bs h.0 d.0 set goal i g.stands.within h.1)) lt)))
                 (this_or_later bs i t h.0 g.stands.within (g.current t refl) h.1 d.0 d.1))
                 inr
                 h.2,

@@ -4,9 +4,11 @@ use Rattle.std.specs.Prelude.{◌≡◌, ℕ, ◌<◌, ◌≤◌, Bool, true, fa
 use Rattle.std.specs.List.{AllByRecursion, IsDistinct}
 use Rattle.triples.specs.declared.triple.Triple.{Triple}
 use Rattle.triples.specs.declared.question.Pattern.{Pattern}
+use Rattle.triples.specs.Codes.{width, code_of, Inside}
 use Rattle.entailment.specs.declared.goal.Position.{Position}
 use Rattle.entailment.specs.declared.goal.Position.TheVariants.{Name, Blank}
 use Rattle.entailment.specs.declared.goal.GoalRow.{GoalRow}
+use Rattle.entailment.specs.Entailment.{put}
 
 -- goal blanks with their terms
 abbrev pub Bound : Type 0
@@ -77,3 +79,7 @@ Extends bs cs = (ps : Bound) × (cs ≡ ps ++ bs)
 abbrev pub Grows : Option Bound → Bound → Bound → Bool → Type 0
 Grows o bs cs true = o ≡ Some cs
 Grows o bs cs false = (o ≡ None) × Extends bs cs
+
+-- no map makes the row a triple that is later than t, but not than u
+abbrev pub NoneBetween : GoalRow → Triple → Triple → Type 0
+NoneBetween r t u = (m : ℕ → ℕ) → Inside width (put m r) → code_of t < code_of (put m r) → code_of u < code_of (put m r)

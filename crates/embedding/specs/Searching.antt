@@ -1,8 +1,9 @@
 -- An inner device: what the search for an embedding asks and answers at each of its steps.
-use Rattle.std.specs.Prelude.{◌≡◌, ℕ, ◌+◌, ◌<◌, ◌⊎◌, Bool, true, false, List, [], ◌∷◌, length, Some, None, Option, slice_index_or, unwrap_or, drop}
+use Rattle.std.specs.Prelude.{◌≤◌, ◌≡◌, ℕ, ◌+◌, ◌<◌, ◌⊎◌, Bool, true, false, List, [], ◌∷◌, length, Some, None, Option, slice_index_or, unwrap_or, drop}
 use Rattle.std.specs.List.{AllByRecursion}
 use Rattle.triples.specs.declared.triple.Triple.{Triple}
 use Rattle.triples.specs.declared.question.Pattern.{Pattern}
+use Rattle.triples.specs.Codes.{code_of}
 use Rattle.triples.specs.Sets.{Graph}
 use Rattle.triples.specs.Questions.{Fits, Next}
 use Rattle.walks.specs.Steps.{from_start, past}
@@ -13,7 +14,7 @@ use Rattle.entailment.specs.Entailment.{put}
 use Rattle.embedding.specs.declared.search.Choice.{Choice}
 use Rattle.embedding.specs.declared.search.Place.{Place}
 use Rattle.embedding.specs.Embeddings.{PutsRows, EmbedsBelow, Absent}
-use Rattle.embedding.specs.Bound.{Bound, lookup, pattern, unify}
+use Rattle.embedding.specs.Bound.{Bound, lookup, pattern, unify, NoneBetween}
 
 -- m gives each goal blank that is bound its term
 abbrev pub Agrees : Bound → (ℕ → ℕ) → Type 0
@@ -92,9 +93,12 @@ pub record Passes (set : Graph) (goal : List GoalRow) (i : ℕ) (t : Triple) (bs
   pub bindings : es ≡ bs
   pub choices : ds ≡ cs
   pub fails : (m : ℕ → ℕ) → Agrees bs m → PutsRows set goal m → put m (row_at goal i) ≡ t → ⊥
+  pub over : Triple
+  pub later : code_of t ≤ code_of over
+  pub none : NoneBetween (row_at goal i) t over
   pub candidate : Option Triple
   pub place : p ≡ Some (record { row = i; candidate = candidate })
-  pub next : Next set (past t (pattern es (row_at goal i))) candidate
+  pub next : Next set (past over (pattern es (row_at goal i))) candidate
 
 -- where it can: its goal blanks are bound, the choice is kept, and another row is next
 pub record Takes (set : Graph) (goal : List GoalRow) (i : ℕ) (t : Triple) (bs : Bound) (cs : List Choice) (es : Bound) (ds : List Choice) (p : Option Place) : Type 0 where

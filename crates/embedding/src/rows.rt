@@ -1,6 +1,7 @@
 // Rows of a goal under bindings: what to ask a store for, and what binding a row to a triple takes.
-ghost use Rattle.std.specs.Prelude.{◌≡◌};
-ghost use Rattle.embedding.specs.Bound.{asked as asked_at, pattern as pattern_of, Small, SmallRow, meet as met, unify as unified, Gives, Grows};
+ghost use Rattle.std.specs.Prelude.{◌≡◌, ◌≤◌};
+ghost use Rattle.triples.specs.Codes.{code_of};
+ghost use Rattle.embedding.specs.Bound.{asked as asked_at, NoneBetween, pattern as pattern_of, Small, SmallRow, meet as met, unify as unified, Gives, Grows};
 
 use crate::bindings::Bindings;
 use entailment::goal::{GoalRow, Position};
@@ -70,4 +71,21 @@ pub(crate) fn unify(row: GoalRow, triple: Triple, bindings: &mut Bindings) -> bo
         bindings.truncate(mark);
     }
     fits
+}
+
+// The triple after which the next one for the row is sought, once `triple` is passed. A row with one goal blank on both sides
+// is no triple whose two sides differ, so those are passed over.
+pub(crate) fn pass_over(row: GoalRow, triple: Triple) -> Triple
+    ensures later { code_of triple ≤ code_of result }
+    ensures none { NoneBetween row triple result }
+{
+    if row.subject != row.object {
+        return triple;
+    }
+    let object = if triple.object < triple.subject {
+        triple.subject - 1
+    } else {
+        TermNumber::MAX
+    };
+    Triple { object, ..triple }
 }

@@ -12,7 +12,7 @@ ghost use Rattle.embedding.specs.Searching.{row_at, Hopeful, Advances, Places, K
 use crate::bindings::Bindings;
 use crate::kind::GOAL_BLANKS;
 use crate::prospects::{is_hopeful, is_parted, open_row, try_triple};
-use crate::rows::pattern;
+use crate::rows::{pass_over, pattern};
 use entailment::goal::GoalRow;
 use stacks::Stack;
 use triples::store::TripleStore;
@@ -119,7 +119,8 @@ fn advance<S: TripleStore>(
 {
     let mark = bindings.len();
     if !try_triple(store, goal, goal[row], triple, bindings) {
-        let candidate = after(store, pattern(goal[row], bindings), triple);
+        let passed = pass_over(goal[row], triple);
+        let candidate = after(store, pattern(goal[row], bindings), passed);
         return Some(Place { row, candidate });
     }
     keep(Choice { row, triple, mark }, goal, bindings, choices);

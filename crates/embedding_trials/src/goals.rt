@@ -63,6 +63,7 @@ fn fill<S: TripleStore>(rt: &impl Abort, store: &mut S) {
         triple(FAMILY, SUB_CLASS, PASS),
         triple(PASS, SUB_CLASS, ITEM),
         triple(FAMILY, SUB_CLASS, ITEM),
+        triple(PASS, SUB_CLASS, PASS),
         triple(CARD, TYPE, FAMILY),
         triple(CARD, TYPE, PASS),
         triple(CARD, TYPE, ITEM),
@@ -132,6 +133,12 @@ fn decides<S: TripleStore>(rt: &impl Abort, store: &mut S) {
     is_yes(
         rt,
         store,
+        &[row(blank(0), SUB_CLASS, blank(0))],
+        [PASS, 0, 0, 0],
+    );
+    is_yes(
+        rt,
+        store,
         &[row(blank(2), OPENS, blank(3))],
         [0, 0, CARD, ROPES],
     );
@@ -164,7 +171,7 @@ fn decides<S: TripleStore>(rt: &impl Abort, store: &mut S) {
     let apart = [
         row(blank(0), OPENS, blank(1)),
         row(blank(2), TYPE, blank(3)),
-        row(blank(4), SUB_CLASS, blank(4)),
+        row(blank(4), OPENS, blank(4)),
     ];
     is_no(rt, store, &apart);
     // the same row twice
@@ -177,7 +184,7 @@ fn decides<S: TripleStore>(rt: &impl Abort, store: &mut S) {
 
 #[test]
 fn decides_in_a_list(rt: HostRuntime) {
-    let mut records = [UNUSED; 10];
+    let mut records = [UNUSED; 11];
     decides(&rt, &mut ListStore::new(&mut records));
 }
 
@@ -189,7 +196,7 @@ fn decides_in_a_cube(rt: HostRuntime) {
 
 #[test]
 fn decides_in_a_store_that_counts(rt: HostRuntime) {
-    let mut records = [UNUSED; 10];
+    let mut records = [UNUSED; 11];
     let mut list = ListStore::new(&mut records);
     decides(&rt, &mut CountingStore::new(&mut list));
 }
