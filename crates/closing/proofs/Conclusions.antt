@@ -1,19 +1,19 @@
 -- The steps are the rows: what follows from premises that fit lies in each set closed under the row, and when each pair that
 -- fits is done, so is each reading.
-use Rattle.std.proofs.Common.{◌≡◌, ℕ, ◌<◌, ◌≤◌, true, [], ◌∷◌, get_or, refl, sym, ap, ◌∙◌, arith, Some, None, subst}
+use Rattle.std.proofs.Common.{lit<, ◌≡◌, ℕ, ◌<◌, ◌≤◌, true, [], ◌∷◌, get_or, refl, sym, ap, ◌∙◌, arith, Some, None, subst}
 use Rattle.std.specs.List.{AllByRecursion}
 use Rattle.triples.specs.declared.triple.Triple.{Triple}
-use Rattle.triples.specs.Codes.{Inside}
+use Rattle.triples.specs.Codes.{width, code_of, Inside}
 use Rattle.triples.specs.Sets.{Graph}
 use Rattle.triples.specs.Questions.{Fits}
-use Rattle.triples.proofs.Triples.{triple_eq}
+use Rattle.triples.proofs.Triples.{triple_eq, code_only}
 use Rattle.entailment.specs.declared.regime.Row.{Row}
 use Rattle.entailment.specs.declared.regime.Row.TheVariants.{RdfD2, Rdfs2, Rdfs3, Rdfs4a, Rdfs4b, Rdfs5, Rdfs6, Rdfs7, Rdfs8, Rdfs9, Rdfs10, Rdfs11, Rdfs12, Rdfs13}
 use Rattle.entailment.specs.Vocabulary.{#type, #Property, #Class, #Datatype, #CMP, #domain, #range, #subClassOf, #subPropertyOf}
 use Rattle.entailment.specs.Rows.{triple, reading, premises, conclusion}
 use Rattle.closing.specs.declared.rows.Part.{Part}
 use Rattle.closing.specs.declared.rows.Part.TheVariants.{Subject, Predicate, Object}
-use Rattle.closing.specs.Steps.{first_of, Partner, conclusion_of, part_of, term_at}
+use Rattle.closing.specs.Steps.{last_alike, first_of, Partner, conclusion_of, part_of, term_at}
 use Rattle.closing.specs.Passes.{RowFrom, RowClosed, PartnersFrom, TermFrom, OfFirst}
 
 -- a conclusion has no numbers but its premises' and the vocabulary's
@@ -109,3 +109,17 @@ terms_do row part n f g e inside done t i fit u j par =
     term_below Subject n t h = h.0
     term_below Predicate n t h = h.1
     term_below Object n t h = h.2
+
+-- second premises up to the last that is alike give one conclusion
+pub alike_concludes : (row : Row) (t u v : Triple) → Inside width u → Inside width v → Partner row t u → Partner row t v → code_of u ≤ code_of v → code_of v ≤ code_of (last_alike row u) → conclusion_of row t v ≡ conclusion_of row t u
+alike_concludes Rdfs2 t u v i j pu pv l m = triple_eq (conclusion_of Rdfs2 t v) (conclusion_of Rdfs2 t u) (omega arith) refl refl
+alike_concludes row t u v i j pu pv l m = ap (conclusion_of row t) (code_only v u j i (omega arith))
+
+-- which is no earlier
+pub last_later : (row : Row) (u : Triple) → Inside width u → code_of u ≤ code_of (last_alike row u)
+last_later Rdfs2 u i = omega arith
+last_later row u i = omega arith
+
+pub last_inside : (row : Row) (u : Triple) → Inside width u → Inside width (last_alike row u)
+last_inside Rdfs2 u i = (i.0, i.1, lit< tt)
+last_inside row u i = i

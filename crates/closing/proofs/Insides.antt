@@ -17,7 +17,7 @@ use Rattle.closing.specs.Passes.{Grown, OfFirst, RowsClosed, HoldsAll}
 use Rattle.closing.specs.Seeds.{HoldsEach, HoldsRdf, HoldsRdfs, HoldsStart, HoldsSeed}
 use Rattle.closing.proofs.Conclusions.{reading-inside}
 use Rattle.closing.proofs.KindsOfTerms.{all_kinds-length}
-use Rattle.closing.proofs.StartSets.{rdf_fixed-inside, rdfs_fixed-inside}
+use Rattle.closing.proofs.FixedTriples.{rdf_fixed-inside, rdfs_fixed-inside}
 
 -- all triples of the first n terms
 abbrev whole : ℕ → Graph

@@ -7,5 +7,6 @@ pub mod Walking
 pub mod Sweeping
 pub mod KindsOfTerms
 pub mod StartSets
+pub mod FixedTriples
 pub mod Insides
 pub mod Ending

@@ -1,13 +1,11 @@
 -- What a set must hold, told by the kinds of the terms, is the start set of every book with terms of these kinds.
-use Rattle.std.proofs.Common.{◌≡◌, ℕ, zero, suc, ◌+◌, ◌<◌, Bool, true, false, cond, T, List, [], ◌∷◌, ◌++◌, length, get_or, map, sym, ap, ◌∙◌, subst, suc-le-suc, le_of_suc-le-suc, zero-le, arith, ◌≤◌, ◌&&◌, nat_lt}
-use Rattle.std.proofs.lemmas.Bool.{ltb-true}
+use Rattle.std.proofs.Common.{◌≡◌, ℕ, zero, suc, ◌+◌, ◌<◌, Bool, true, false, cond, T, List, [], ◌∷◌, ◌++◌, length, get_or, map, sym, ap, ◌∙◌, subst, suc-le-suc, le_of_suc-le-suc, zero-le, arith}
 use Rattle.std.specs.List.{AllByRecursion}
 use Rattle.std.specs.Bool.{passes}
 use Rattle.std.proofs.ByRecursion.{All-append, All-map}
 use Rattle.std.proofs.Math.ListN.{get_or-map}
 use Rattle.std.proofs.lemmas.List.{length-map}
 use Rattle.triples.specs.declared.triple.Triple.{Triple}
-use Rattle.triples.specs.Codes.{Inside}
 use Rattle.triples.specs.Sets.{Graph}
 use Rattle.entailment.specs.declared.regime.Regime.{Regime}
 use Rattle.entailment.specs.declared.regime.Regime.TheVariants.{Simple, Rdf, Rdfs}
@@ -15,7 +13,7 @@ use Rattle.entailment.specs.Terms.{Term, blank, where_from, names_of, positions_
 use Rattle.entailment.specs.Vocabulary.{#type, #Property, #Resource, #CMP, #domain, #range}
 use Rattle.entailment.specs.Rows.{triple}
 use Rattle.entailment.specs.Starts.{each, rdf_fixed, rdfs_fixed, rdf_start, rdfs_start, start}
-use Rattle.entailment.proofs.Basics.{all_unmap, and_left, and_right, all-by_test}
+use Rattle.entailment.proofs.Basics.{all_unmap}
 use Rattle.entailment.proofs.Counting.{passed}
 use Rattle.closing.specs.declared.kinds.TermKind.{TermKind}
 use Rattle.closing.specs.declared.kinds.TermKind.TheVariants.{Blank}
@@ -137,24 +135,3 @@ module _ (more : List Term) (f : Graph) where
     list_rdf (all_front (λ t. f t ≡ true) (rdf_start (thirty ++ more)) (rdfs_start (thirty ++ more)) h),
     list_rdfs (all_rest (λ t. f t ≡ true) (rdf_start (thirty ++ more)) (rdfs_start (thirty ++ more)) h),
   )
-
--- the fixed triples are of the first thirty terms
-low : Triple → Bool
-low t = nat_lt t.subject 30 && (nat_lt t.predicate 30 && nat_lt t.object 30)
-
-low-inside : (n : ℕ) → 30 ≤ n → (t : Triple) → T (low t) → Inside n t
-unfolding low
-low-inside n w t h =
-    let a = and_left (nat_lt t.subject 30) (nat_lt t.predicate 30 && nat_lt t.object 30) h in
-    let b = and_right (nat_lt t.subject 30) (nat_lt t.predicate 30 && nat_lt t.object 30) h in
-    let c = and_left (nat_lt t.predicate 30) (nat_lt t.object 30) b in
-    let d = and_right (nat_lt t.predicate 30) (nat_lt t.object 30) b in
-    (omega (arith, ltb-true t.subject 30 (passed (nat_lt t.subject 30) a)), omega (arith, ltb-true t.predicate 30 (passed (nat_lt t.predicate 30) c)), omega (arith, ltb-true t.object 30 (passed (nat_lt t.object 30) d)))
-
-pub rdf_fixed-inside : (n : ℕ) → 30 ≤ n → AllByRecursion (Inside n) rdf_fixed
-unfolding low
-rdf_fixed-inside n w = all-by_test (Inside n) low (low-inside n w) rdf_fixed tt
-
-pub rdfs_fixed-inside : (n : ℕ) → 30 ≤ n → AllByRecursion (Inside n) rdfs_fixed
-unfolding low
-rdfs_fixed-inside n w = all-by_test (Inside n) low (low-inside n w) rdfs_fixed tt

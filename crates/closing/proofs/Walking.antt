@@ -1,13 +1,13 @@
 -- A walk through a set that grows on the way: each triple that was in the set when the walk began is behind it or ahead.
-use Rattle.std.proofs.Common.{◌≡◌, ℕ, ◌-◌, ◌<◌, ◌≤◌, true, Some, None, Option, sym, subst, ⊎_elim, arith}
-use Rattle.std.proofs.lemmas.Bool.{cases_order, both_ways}
+use Rattle.std.proofs.Common.{◌≡◌, ℕ, ◌-◌, ◌<◌, ◌≤◌, true, Some, None, Option, ⊎_elim, arith}
+use Rattle.std.proofs.lemmas.Bool.{cases_lt, both_ways}
 use Rattle.triples.specs.declared.triple.Triple.{Triple}
 use Rattle.triples.specs.declared.question.Pattern.{Pattern}
 use Rattle.triples.specs.declared.question.Question.{Question}
 use Rattle.triples.specs.Codes.{width, codes, code_of, Inside}
 use Rattle.triples.specs.Sets.{Graph}
 use Rattle.triples.specs.Questions.{Next, Fits}
-use Rattle.triples.proofs.Triples.{code_only, code_below}
+use Rattle.triples.proofs.Triples.{code_below}
 use Rattle.walks.specs.Steps.{from_start, past}
 use Rattle.closing.specs.Passes.{Within}
 
@@ -37,22 +37,24 @@ unanswered g q (Some t) h u i fit b l = both_ways (g u) (h.least u (l, fit) b) i
 pub walk_starts : (P : Triple → Type 0) (f : Graph) (p : Pattern) (c : Option Triple) → Next f (from_start p) c → Walked P f p c
 walk_starts P f p c h u i fit b = absurd (unanswered f (from_start p) c h u i fit b (omega arith))
 
-pub walk_steps : (P Q : Triple → Type 0) (f g : Graph) (p : Pattern) (t : Triple) (c : Option Triple)
-    → ((u : Triple) → f u ≡ true → Inside width u) → Inside width t → Within f g → Next g (past t p) c
-    → Walked P f p (Some t) → ((u : Triple) → P u → Q u) → Q t → Walked Q f p c
-walk_steps P Q f g p t c inside it w h was on here u i fit b =
+-- a step from t past w, where Q holds of what lies from t to w
+pub walk_steps : (P Q : Triple → Type 0) (f g : Graph) (p : Pattern) (t w : Triple) (c : Option Triple)
+    → Within f g → Next g (past w p) c → Walked P f p (Some t) → ((u : Triple) → P u → Q u)
+    → ((u : Triple) → f u ≡ true → Fits p u → code_of t ≤ code_of u → code_of u ≤ code_of w → Q u) → Walked Q f p c
+walk_steps P Q f g p t w c grow h was on here u i fit b =
     ⊎_elim
-    (λ e. subst Q (sym (code_only u t (inside u i) it e)) here)
-    (⊎_elim
     (λ lt. on u (was u i fit lt))
-    (λ gt. absurd (unanswered g (past t p) c h u (w u i) fit b (omega arith))))
-    (cases_order (code_of u) (code_of t))
+    (λ ge. ⊎_elim
+    (λ gt. absurd (unanswered g (past w p) c h u (grow u i) fit b (omega arith)))
+    (λ le. here u i fit ge le)
+    (cases_lt (code_of w) (code_of u)))
+    (cases_lt (code_of u) (code_of t))
 
 -- how many codes there are from the candidate's on
 abbrev pub left : Option Triple → ℕ
 left None = 0
 left (Some t) = codes - code_of t
 
-pub left_falls : (g : Graph) (p : Pattern) (t : Triple) (c : Option Triple) → Inside width t → Next g (past t p) c → left c < left (Some t)
-left_falls g p t None i h = let l : code_of t < codes = code_below t i in omega arith
-left_falls g p t (Some u) i h = let l : code_of t < codes = code_below t i in omega (arith, h.asked.0)
+pub left_falls : (g : Graph) (p : Pattern) (t w : Triple) (c : Option Triple) → Inside width t → code_of t ≤ code_of w → Next g (past w p) c → left c < left (Some t)
+left_falls g p t w None i later h = let l : code_of t < codes = code_below t i in omega arith
+left_falls g p t w (Some u) i later h = let l : code_of t < codes = code_below t i in omega (arith, h.asked.0)

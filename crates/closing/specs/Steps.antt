@@ -105,3 +105,8 @@ abbrev pub by_part : Part → ℕ → Pattern
 by_part Subject n = record { subject = Some n; predicate = None; object = None }
 by_part Predicate n = by_predicate n
 by_part Object n = record { subject = None; predicate = None; object = Some n }
+
+-- the last triple up to which each second premise with the same predicate gives the same conclusion
+abbrev pub last_alike : Row → Triple → Triple
+last_alike Rdfs2 u = triple u.subject u.predicate 255
+last_alike row u = u

@@ -7,7 +7,7 @@ ghost use Rattle.closing.specs.Steps.{first_of, second_of, conclusion_of, part_o
 ghost use Rattle.closing.specs.Passes.{Outcome, Swept, Holds, RowFrom, PartnersFrom, TermFrom, OfFirst, RowsFrom, RowClosed, RowsClosed};
 
 use crate::rows::{
-    Part, by_part, conclude, first_pattern, is_idle, part_of, rows_of, second_pattern,
+    Part, by_part, conclude, first_pattern, is_idle, last_alike, part_of, rows_of, second_pattern,
 };
 use entailment::regime::{Regime, Row};
 use triples::question::Pattern;
@@ -67,7 +67,7 @@ fn enter_with_each<S: TripleStore>(
     let mut candidate = first(store, pattern);
     while let Some(second) = candidate {
         enter(store, row, premise, second)?;
-        candidate = after(store, pattern, second);
+        candidate = after(store, pattern, last_alike(row, second));
     }
     Ok(())
 }

@@ -1,7 +1,7 @@
 // The rows as the passes take them: what is asked of a row's premises, and its conclusion. A row of one premise asks for no
 // second, and is given its premise twice.
 ghost use Rattle.std.specs.Prelude.{◌≡◌, ◌&&◌, ◌==◌};
-ghost use Rattle.closing.specs.Steps.{rows_of, first_of, second_of, conclusion_of, by_predicate, by_type, by_part, part_of, repeats};
+ghost use Rattle.closing.specs.Steps.{rows_of, first_of, second_of, conclusion_of, by_predicate, by_type, by_part, part_of, repeats, last_alike};
 
 use crate::vocabulary::{
     CLASS, CMP, DATATYPE, DOMAIN, LITERAL, MEMBER, PROPERTY, RANGE, RESOURCE, SUB_CLASS_OF,
@@ -116,6 +116,21 @@ pub fn is_idle(row: Row, first: Triple) -> bool
     ensures { result ≡ (repeats row && (first.subject == first.object)) }
 {
     repeats(row) && first.subject == first.object
+}
+
+// The last triple up to which each second premise with the same predicate gives the same conclusion as this one: where the
+// conclusion does not speak of its object, the last with the same subject.
+pub fn last_alike(row: Row, second: Triple) -> Triple
+    ensures { result ≡ last_alike row second }
+{
+    match row {
+        Row::Rdfs2 => Triple {
+            subject: second.subject,
+            predicate: second.predicate,
+            object: TermNumber::MAX,
+        },
+        _ => second,
+    }
 }
 
 // A part of a triple.

@@ -1,7 +1,9 @@
-use Rattle.std.proofs.Common.{Option, ◌∙◌, sym, subst}
+use Rattle.std.proofs.Common.{Option, ◌∙◌, sym, subst, ◌≡◌, arith}
 use Rattle.triples.specs.declared.triple.Triple.{Triple}
 use Rattle.triples.specs.declared.question.Pattern.{Pattern}
 use Rattle.triples.specs.Questions.{Fits}
+use Rattle.triples.specs.Codes.{code_of}
+use Rattle.triples.proofs.Triples.{code_only}
 use Rattle.triples.proofs.Lawfulness.{lawful-inside}
 use Rattle.walks.specs.Steps.{past}
 use Rattle.closing.specs.Steps.{conclusion_of}
@@ -43,13 +45,15 @@ loop-candidate-preserved g c =
       grown = grown;
       current = next_current k (past t p) next.result next.ensures;
       walked =
-          walk_steps (λ v. PartnersFrom a.row v f h) (λ v. PartnersFrom a.row v f k) f k p t next.result
-          (lawful-inside (store.side_of s) (store.capacity_of s) f (store.lawful s))
-          (lawful-inside (store.side_of now) (store.capacity_of now) h (store.lawful now) t here.0)
+          walk_steps (λ v. PartnersFrom a.row v f h) (λ v. PartnersFrom a.row v f k) f k p t t next.result
           grown.keeps next.ensures
           (subst (λ (x : Option Triple). Walked (λ v. PartnersFrom a.row v f h) f p x) c.in-Some.is i.walked)
           (λ v d u j q. e.enters.0.keeps (conclusion_of a.row v u) (d u j q))
-          (λ u j q. e.enters.1 u (i.grown.keeps u j) q);
+          (λ v j fit low high.
+          let same : code_of v ≡ code_of t = omega arith in
+          subst (λ (x : Triple). PartnersFrom a.row x f k)
+          (sym (code_only v t (lawful-inside (store.side_of s) (store.capacity_of s) f (store.lawful s) v j) (lawful-inside (store.side_of now) (store.capacity_of now) h (store.lawful now) t here.0) same))
+          (λ u l q. e.enters.1 u (i.grown.keeps u l) q));
     }
 
 pub returns-clause-applies : goal.returns-clause-applies

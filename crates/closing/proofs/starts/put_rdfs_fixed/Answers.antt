@@ -3,7 +3,7 @@ use Rattle.std.specs.List.{AllByRecursion}
 use Rattle.triples.specs.declared.triple.Triple.{Triple}
 use Rattle.triples.specs.Codes.{Inside}
 use Rattle.closing.specs.Passes.{Outcome, HoldsAll}
-use Rattle.closing.proofs.StartSets.{rdfs_fixed-inside}
+use Rattle.closing.proofs.FixedTriples.{rdfs_fixed-inside}
 use Rattle.closing.proofs.starts.put_rdfs_fixed.Goals as goal
 
 pub put_all-requires : goal.put_all-requires
