@@ -9,7 +9,7 @@ use Rattle.entailment.specs.declared.regime.Regime.TheVariants.{Simple, Rdf, Rdf
 use Rattle.entailment.specs.declared.regime.Row.{Row}
 use Rattle.entailment.specs.declared.regime.Row.TheVariants.{RdfD2}
 use Rattle.entailment.specs.Rows.{uses, reading, premises}
-use Rattle.entailment.proofs.SaturationRows.{each_row}
+use Rattle.entailment.proofs.EachRow.{each_row}
 use Rattle.closing.specs.Steps.{rows_of}
 use Rattle.closing.specs.Passes.{Within, RowFrom, RowsFrom, RowsClosed}
 use Rattle.closing.proofs.Inclusions.{size_same}
