@@ -1,5 +1,5 @@
 mod Numbers
-mod Beginning
+pub mod Beginning
 mod Tables
 mod Packing
 mod Packed

@@ -1,0 +1,9 @@
+pub mod Numbers
+pub mod Spelled
+pub mod Ledger
+pub mod Steps
+pub mod Loads
+pub mod Calls
+pub mod Texts
+pub mod Soundness
+pub mod Laws

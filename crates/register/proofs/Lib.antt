@@ -1,0 +1,4 @@
+pub mod Finding
+pub mod Interning
+pub mod Seeing
+pub mod Keeping
