@@ -1,4 +1,5 @@
-// The steps of a walk, and the questions that walks ask, which are made here and nowhere else.
+// The steps of a walk, and the questions that walks ask, which are made here and nowhere else. `first` and `after` take a store
+// and a pattern, which a `Walk` keeps together: for one step the struct would be made and thrown away.
 ghost use Rattle.std.specs.Prelude.{◌≡◌};
 ghost use Rattle.triples.specs.Questions.{Next};
 ghost use Rattle.walks.specs.Steps.{from_start as the_start, past as the_rest};
