@@ -4,8 +4,9 @@ ghost use Rattle.closing.specs.Kinds.{kind};
 ghost use Rattle.ledger.specs.Ledger.{terms};
 ghost use Rattle.book.specs.Filling.{Fill};
 
-use closing::closing::{Refusal, close};
+use closing::closing::close;
 use closing::kinds::TermKind;
+use closing::refusal::Refusal;
 use entailment::regime::Regime;
 use register::Register;
 use triples::store::TripleStore;
