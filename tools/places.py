@@ -1,20 +1,22 @@
 #!/usr/bin/env python3
-"""Lists, at a commit, the places in crates/*/src that a reader judges point by point in docs/DESIGN-PASS.md.
+"""Lists, at a commit, the places in crates/*/src that a reader judges kind by kind in docs/DESIGN-PASS.md.
 
-    tools/places.py COMMIT [POINT]
+    tools/places.py COMMIT [KIND]
 
-Points 1, 3, 4, 6 and 7 are lines that a pattern finds; 2 is what the tool `duplicates` finds, if it is there, among the
-same files; 5 are clauses, and pairs of parameters, that stand in three functions or more; 8 counts answers and lines of
-proofs."""
+Enums, loops, hand, buffers and switches are lines that a pattern finds; twins is what the tool `duplicates` finds, if it is
+there, among the same files; together are clauses, and pairs of parameters, that stand in three functions or more; proofs
+counts answers and lines."""
 import collections, os, re, shutil, subprocess, sys, tempfile
 
+KINDS = ["enums", "twins", "loops", "hand", "together", "buffers", "switches", "proofs"]
+
 PATTERNS = {
-    1: r"^\s*(pub(\(crate\))? )?enum |fn (number|place|at)\(|const ROWS|(Err|Ok|Some)\([a-z_]*\) => (Err|Ok|Some|None|true|false|end ==)"
+    "enums": r"^\s*(pub(\(crate\))? )?enum |fn (number|place|at)\(|const ROWS|(Err|Ok|Some)\([a-z_]*\) => (Err|Ok|Some|None|true|false|end ==)"
        r"|^\s*(None|Err\(_\)) => (Err|None|false|true)|if let Err|let Some\(.*else \{$",
-    3: r"^\s*(while|for|loop)\b",
-    4: r"\bas (u8|u16|u32|u64|usize|Code|TermNumber)\b|fn (is_same|row|reason_of|code|decoded|at_base)\(|=> (true|false),$",
-    6: r"\b(len|count|at|end|next): usize",
-    7: r"\bdyn |: fn\(|Box<|Form::[A-Z]",
+    "loops": r"^\s*(while|for|loop)\b",
+    "hand": r"\bas (u8|u16|u32|u64|usize|Code|TermNumber)\b|fn (is_same|row|reason_of|code|decoded|at_base)\(|=> (true|false),$",
+    "buffers": r"\b(len|count|at|end|next): usize",
+    "switches": r"\bdyn |: fn\(|Box<|Form::[A-Z]",
 }
 
 
@@ -41,18 +43,18 @@ def functions(source):
 
 def main():
     commit = sys.argv[1]
-    wanted = int(sys.argv[2]) if len(sys.argv) > 2 else None
+    wanted = sys.argv[2] if len(sys.argv) > 2 else None
     sources = {f: text(commit, f) for f in files(commit, r"crates/\w+/src/.*\.rt$")}
-    for point in range(1, 9):
-        if wanted not in (None, point):
+    for kind in KINDS:
+        if wanted not in (None, kind):
             continue
         rows = []
-        if point in PATTERNS:
+        if kind in PATTERNS:
             for f, s in sources.items():
                 for n, line in enumerate(s.split("\n"), 1):
-                    if re.search(PATTERNS[point], line) and not line.strip().startswith("//"):
+                    if re.search(PATTERNS[kind], line) and not line.strip().startswith("//"):
                         rows.append(f"{f}:{n}: {line.strip()}")
-        elif point == 2 and shutil.which("duplicates"):
+        elif kind == "twins" and shutil.which("duplicates"):
             with tempfile.TemporaryDirectory() as d:
                 for f, s in sources.items():
                     path = os.path.join(d, f[:-3] + ".rs")
@@ -60,7 +62,7 @@ def main():
                     open(path, "w").write(s)
                 out = subprocess.run(["duplicates", "--min-lines", "5", "--most", "60"], cwd=d, capture_output=True, text=True)
                 rows = [l for l in out.stdout.split("\n") if re.match(r"D\d", l)]
-        elif point == 5:
+        elif kind == "together":
             clauses, pairs = collections.defaultdict(set), collections.defaultdict(set)
             for f, s in sources.items():
                 for name, params, cs in functions(s):
@@ -73,7 +75,7 @@ def main():
                             pairs[(f.split("/")[1], ps[i], ps[j])].add((f, name))
             rows += [f"clause in {len(w)} functions: {c}" for c, w in clauses.items() if len(w) > 2]
             rows += [f"parameters of {len(w)} functions of {c}: {a}, {b}" for (c, a, b), w in pairs.items() if len(w) > 2]
-        elif point == 8:
+        elif kind == "proofs":
             names = files(commit, r"crates/\w+/proofs/.*\.antt$")
             answers, lines, own = 0, 0, 0
             for f in names:
@@ -83,7 +85,7 @@ def main():
                     own += 1
                     answers += len(re.findall(r"^pub \S+ : goal\.", s, re.M))
             rows = [f"{len(names)} files of proofs, {lines} lines; {own} of them files of answers, with {answers} answers"]
-        print(f"point {point}: {len(rows)}")
+        print(f"{kind}: {len(rows)}")
         for r in rows:
             print("  " + r)
 
