@@ -1,8 +1,9 @@
 -- The loop that writes a literal, turn by turn. Assumes nothing.
-use Rattle.std.proofs.Common.{◌≡◌, ℕ, ◌+◌, ◌<◌, List, [], ◌∷◌, ◌++◌, length, sym, ap, ◌∙◌, append_assoc, arith, length-append}
+use Rattle.std.proofs.Common.{◌≡◌, ℕ, ◌+◌, ◌<◌, ◌≤◌, List, [], ◌∷◌, ◌++◌, length, Ok, Err, Result, MatchResult, sym, ap, ◌∙◌, append_assoc, arith, length-append}
 use Rattle.grammar.specs.Readings.{a_literal}
-use Rattle.spelling.specs.Names.{Name, Denotes, canonical, escaped_byte, escaped}
-use Rattle.spelling.specs.Writing.{Splits}
+use Rattle.spelling.specs.declared.canonical.TooLong.{TooLong}
+use Rattle.spelling.specs.Names.{Name, Denotes, canonical, escaped_byte, escaped, longest}
+use Rattle.spelling.specs.Writing.{Splits, WroteName, written as outcome}
 use Rattle.spelling.proofs.Bodies.{Body}
 use Rattle.spelling.proofs.Literals.{opened, canonical_is}
 use Rattle.spelling.proofs.Pieces.{Next, body-step, body-end}
@@ -54,3 +55,7 @@ module _ (rest written : List ℕ) (n : Name) (l : Halfway rest written n) where
   closing-quote none =
       let (u, v) = body-end rest l.tail l.raw l.lexical none l.split l.body in
       l.front ∙ ap (λ w. written ++ (escaped w ++ 34 ∷ l.tail)) v ∙ ap (λ w. written ++ w) (ap (λ w. w ++ 34 ∷ l.tail) (sym u) ∙ sym l.split)
+
+  pub all_written : ((c : ℕ) (w : List ℕ) → Splits rest c w → rest ≡ 34 ∷ w) → (now : List ℕ) (r : Result (Unit {0}) TooLong) → MatchResult r (λ _. length now ≤ longest) (λ _. longest < length written + length rest) → MatchResult r (λ _. now ≡ written ++ rest) (λ _. now ≡ written) → WroteName n (outcome r now)
+  all_written none now (Ok u) f w = w ∙ sym (closing-quote none)
+  all_written none now (Err e) f w = omega (arith, f, simp length-append at (ap length (closing-quote none)))

@@ -24,3 +24,13 @@ abbrev pub Wrote : Kind → List ℕ → Result (Option (List ℕ)) TooLong → 
 Wrote k t (Ok (Some w)) = (m : Name) × Denotes k t m × (w ≡ canonical m)
 Wrote k t (Ok None) = (m : Name) → Denotes k t m → ⊥
 Wrote k t (Err e) = Over k t
+
+-- the outcome of a call that writes to a lent writer, with what the writer then holds
+abbrev pub written : Result (Unit {0}) TooLong → List ℕ → Result (List ℕ) TooLong
+written (Ok u) w = Ok w
+written (Err e) w = Err e
+
+-- the same for a token that denotes a name
+abbrev pub told : Result (Unit {0}) TooLong → List ℕ → Result (Option (List ℕ)) TooLong
+told (Ok u) w = Ok (Some w)
+told (Err e) w = Err e

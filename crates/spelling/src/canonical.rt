@@ -1,9 +1,9 @@
 // The calls on spellings.
-ghost use Rattle.std.specs.Prelude.{◌≡◌, MatchBool};
+ghost use Rattle.std.specs.Prelude.{◌≡◌, true, false, [], MatchBool};
 ghost use Rattle.ntriples.specs.Answers.{kind_of, bytes_of};
-ghost use Rattle.spelling.specs.Names.{LawfulAs, Lawful};
+ghost use Rattle.spelling.specs.Names.{Name, Denotes, LawfulAs, Lawful};
 ghost use Rattle.spelling.specs.Answers.{number, Spelling, ReadsBack, OneSpelling};
-ghost use Rattle.spelling.specs.Writing.{Wrote};
+ghost use Rattle.spelling.specs.Writing.{Wrote, told};
 
 use crate::LONGEST;
 use crate::text::{write_iri, write_literal};
@@ -24,15 +24,29 @@ impl TooLong {
     }
 }
 
-// The canonical spelling of the token's name. `None` where it denotes no name: labels do not, nor do bytes that the
-// token's production does not spell.
-fn spelling(token: Token) -> Result<Option<Writer>, TooLong>
-    ensures { Wrote (kind_of token.entry) (bytes_of token.entry) result }
+// Whether the token denotes a name: labels do not, nor do bytes that the token's production does not spell. It is asked
+// first, so that memory for a spelling is made only where there is one.
+fn has_name(token: Token) -> bool
+    ensures yes { result ≡ true → (n : Name) × Denotes (kind_of token.entry) (bytes_of token.entry) n }
+    ensures no { result ≡ false → (n : Name) → ¬ Denotes (kind_of token.entry) (bytes_of token.entry) n }
 {
     match token {
-        Token::Iri(text) if is_iri(text) => Ok(Some(write_iri(text)?)),
-        Token::Literal(text) if is_literal(text) => Ok(Some(write_literal(text)?)),
-        _ => Ok(None),
+        Token::Iri(text) => is_iri(text),
+        Token::Label(_) => false,
+        Token::Literal(text) => is_literal(text),
+    }
+}
+
+// Writes the canonical spelling of the token's name. The writer is lent and not handed back, since it is too large to
+// be moved for each token. No label has a name.
+fn spelling(token: Token, writer: &mut Writer) -> Result<(), TooLong>
+    requires fresh { writer.old ≡ [] }
+    ensures { (n : Name) → Denotes (kind_of token.entry) (bytes_of token.entry) n → Wrote (kind_of token.entry) (bytes_of token.entry) (told result writer.new) }
+{
+    match token {
+        Token::Iri(text) => write_iri(text, writer),
+        Token::Label(_) => Ok(()),
+        Token::Literal(text) => write_literal(text, writer),
     }
 }
 
@@ -45,21 +59,25 @@ pub fn spell(token: Token, out: &mut [u8; LONGEST]) -> Result<Option<usize>, Too
     ensures reads_back { ReadsBack (kind_of token.entry) (bytes_of token.entry) }
     ensures one_spelling { OneSpelling (kind_of token.entry) (bytes_of token.entry) }
 {
-    let Some(writer) = spelling(token)? else {
+    if !has_name(token) {
         return Ok(None);
-    };
+    }
+    let mut writer = Writer::new();
+    spelling(token, &mut writer)?;
     Ok(Some(writer.store(out)))
 }
 
-// Whether the bytes are the canonical spelling of a token of this kind; the token has the bytes. With `let .. else` the proof no
-// longer closed.
+// Whether the bytes are the canonical spelling of a token of this kind; the token has the bytes.
 fn is_lawful_as(token: Token, bytes: &[u8]) -> bool
     requires same { bytes_of token ≡ bytes.now }
     ensures { MatchBool result (LawfulAs (kind_of token.entry) bytes.now) (¬ LawfulAs (kind_of token.entry) bytes.now) }
 {
-    match spelling(token) {
-        Ok(Some(writer)) => writer.text() == bytes,
-        Ok(None) => false,
+    if !has_name(token) {
+        return false;
+    }
+    let mut writer = Writer::new();
+    match spelling(token, &mut writer) {
+        Ok(()) => writer.text() == bytes,
         Err(TooLong) => false,
     }
 }

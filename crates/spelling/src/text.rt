@@ -1,8 +1,8 @@
 // Writes the canonical spelling of a token's text.
-ghost use Rattle.std.specs.Prelude.{◌≡◌, ℕ, ◌≢◌, List, ◌∷◌, MatchOption};
+ghost use Rattle.std.specs.Prelude.{◌≡◌, ℕ, ◌≢◌, List, [], ◌∷◌, MatchOption};
 ghost use Rattle.grammar.specs.Readings.{an_iri, a_literal};
 ghost use Rattle.spelling.specs.Names.{Escape, Name, Denotes};
-ghost use Rattle.spelling.specs.Writing.{Splits, WroteName};
+ghost use Rattle.spelling.specs.Writing.{Splits, WroteName, written};
 
 use crate::canonical::TooLong;
 use crate::writer::Writer;
@@ -33,29 +33,27 @@ fn next_byte(text: &[u8]) -> Option<(u8, &[u8])>
     }
 }
 
-// The canonical spelling of an IRI, which is the text as it is.
-pub(crate) fn write_iri(text: &[u8]) -> Result<Writer, TooLong>
-    ensures { (n : Name) → Denotes an_iri text.now n → WroteName n result }
+// Writes the canonical spelling of an IRI, which is the text as it is.
+pub(crate) fn write_iri(text: &[u8], writer: &mut Writer) -> Result<(), TooLong>
+    requires fresh { writer.old ≡ [] }
+    ensures { (n : Name) → Denotes an_iri text.now n → WroteName n (written result writer.new) }
 {
-    let mut writer = Writer::new();
-    writer.copy(text)?;
-    Ok(writer)
+    writer.copy(text)
 }
 
-// The canonical spelling of a literal: the bytes up to the first quote that is no part of an escape are read and put
-// one by one, and the rest is copied.
-pub(crate) fn write_literal(text: &[u8]) -> Result<Writer, TooLong>
-    ensures { (n : Name) → Denotes a_literal text.now n → WroteName n result }
+// Writes the canonical spelling of a literal: the bytes up to the first quote that is no part of an escape are read and
+// put one by one, and the rest is copied.
+pub(crate) fn write_literal(text: &[u8], writer: &mut Writer) -> Result<(), TooLong>
+    requires fresh { writer.old ≡ [] }
+    ensures { (n : Name) → Denotes a_literal text.now n → WroteName n (written result writer.new) }
 {
-    let mut writer = Writer::new();
     let Some((_, mut rest)) = text.split_first() else {
-        return Ok(writer); // no literal is empty
+        return Ok(()); // no literal is empty
     };
     writer.copy(b"\"")?;
     while let Some((byte, after)) = next_byte(rest) {
         writer.put(byte)?;
         rest = after;
     }
-    writer.copy(rest)?;
-    Ok(writer)
+    writer.copy(rest)
 }

@@ -7,11 +7,12 @@ use crate::LONGEST;
 use crate::canonical::TooLong;
 use std::marker::Model;
 
-// What is written of a spelling. No heap here: an array with room for the longest one, and how much of it is used.
+// What is written of a spelling. No heap here: an array with room for the longest one, and how much of it is used, in a
+// byte, so that the whole is small enough to be cleared without a call.
 #[derive(Drop)]
 pub(crate) struct Writer {
     bytes: [u8; LONGEST],
-    len: usize,
+    len: u8,
 }
 
 // Clauses see the bytes that are written, and not the invariant, so those that need its bound say it.
@@ -41,12 +42,13 @@ impl Writer {
         ensures fits { MatchResult result (λ _. length self.new ≤ longest) (λ _. longest < length self.old + length text.now) }
         ensures written { MatchResult result (λ _. self.new ≡ self.old ++ text.now) (λ _. self.new ≡ self.old) }
     {
-        if LONGEST - self.len < text.len() {
+        let start = usize::from(self.len);
+        if LONGEST - start < text.len() {
             return Err(TooLong);
         }
-        let end = self.len + text.len();
-        self.bytes[self.len..end].copy_from_slice(text);
-        self.len = end;
+        let end = start + text.len();
+        self.bytes[start..end].copy_from_slice(text);
+        self.len = end as u8;
         Ok(())
     }
 
@@ -69,7 +71,7 @@ impl Writer {
         ensures written { result.now ≡ self.now }
         ensures short { length result.now ≤ longest }
     {
-        &self.bytes[..self.len]
+        &self.bytes[..usize::from(self.len)]
     }
 
     // Stores what is written at the start of `out`, and tells its length.
