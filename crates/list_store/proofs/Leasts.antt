@@ -1,6 +1,8 @@
 -- The least of the records that answer a question.
-use Rattle.std.proofs.Common.{◌≡◌, ℕ, zero, suc, ◌≤◌, true, false, Bool, cond, List, [], ◌∷◌, Some, None, Option, filter, slice_get, length, sym, refl, ap, ◌∙◌, subst, ⊎_elim, arith}
+use Rattle.std.proofs.Common.{◌≡◌, ℕ, zero, suc, ◌≤◌, true, false, Bool, cond, List, [], ◌∷◌, Some, None, Option, option_map, filter, map, slice_get, length, sym, refl, ap, ◌∙◌, subst, ⊎_elim, arith}
 use Rattle.std.proofs.lemmas.Bool.{false≢true, cases_Bool, both_ways}
+use Rattle.std.proofs.lemmas.List.{length-map}
+use Rattle.std.proofs.lemmas.Option.{slice_get-map}
 use Rattle.std.proofs.lemmas.Map.Keys.{ge_from_not_lt}
 use Rattle.std.proofs.iter.runs.Made.{at-is, each_of}
 use Rattle.std.specs.Iterator.Runs.{Run, AnyItem, NoKeyBeyond, CallKeepsClosure}
@@ -86,17 +88,47 @@ next_of_least ts q xs r e h =
               (cases_Bool (among ts t));
         }
 
--- the item that min_by_key picks from a run by the codes
-module _ {S F : Type 0} {steps : S → Option Triple → S → Type 0} (p : Run steps) (g : Mut F (Bor Triple × Unit {0}) ℕ) (f : F) (keeps : CallKeepsClosure g f) (codes : (x : Triple) (j : ℕ) → CalledAt g f x j f → j ≡ code_of x) where
-  pub picked : (r : Option Triple) → MatchOption r (p.len ≡ 0) (λ m. AnyItem p (λ x. x ≡ m) × NoKeyBeyond p g f is_lt nat_cmp m) → MatchOption r (length p.items ≡ 0) (λ m. ((k : ℕ) × IsSomeAnd (slice_get p.items k) (λ x. x ≡ m)) × ((k : ℕ) → IfSome (slice_get p.items k) (λ x. code_of m ≤ code_of x)))
-  picked None h = sym p.long ∙ h
+-- a filter by what each item stands for
+pub map-filter : {A : Type 0} (v : A → Triple) (p : Triple → Bool) (xs : List A) → map v (filter (λ x. p (v x)) xs) ≡ filter p (map v xs)
+map-filter v p [] = refl
+map-filter v p (x ∷ xs) =
+    let rest = filter (λ y. p (v y)) xs in
+    ⊎_elim
+    (λ y.
+    ap (λ (b : Bool). map v (cond b (x ∷ rest) rest)) y
+    ∙ ap (λ (ts : List Triple). v x ∷ ts) (map-filter v p xs)
+    ∙ ap (λ (b : Bool). cond b (v x ∷ filter p (map v xs)) (filter p (map v xs))) (sym y))
+    (λ n.
+    ap (λ (b : Bool). map v (cond b (x ∷ rest) rest)) n
+    ∙ map-filter v p xs
+    ∙ ap (λ (b : Bool). cond b (v x ∷ filter p (map v xs)) (filter p (map v xs))) (sym n))
+    (cases_Bool (p (v x)))
+
+is_mapped : {A : Type 0} (v : A → Triple) (m : A) (o : Option A) → IsSomeAnd o (λ x. x ≡ m) → IsSomeAnd (option_map v o) (λ t. t ≡ v m)
+is_mapped v m None h = absurd h
+is_mapped v m (Some x) e = ap v e
+
+if_mapped : {A : Type 0} (v : A → Triple) (P : Triple → Type 0) (o : Option A) → IfSome o (λ x. P (v x)) → IfSome (option_map v o) P
+if_mapped v P None h = tt
+if_mapped v P (Some x) h = h
+
+-- the item that min_by_key picks from a run by the codes of the triples that the items stand for
+module _ {S A F : Type 0} {steps : S → Option A → S → Type 0} (v : A → Triple) (p : Run steps) (g : Mut F (Bor A × Unit {0}) ℕ) (f : F) (keeps : CallKeepsClosure g f) (codes : (x : A) (j : ℕ) → CalledAt g f x j f → j ≡ code_of (v x)) where
+  pub picked : (r : Option A) → MatchOption r (p.len ≡ 0) (λ m. AnyItem p (λ x. x ≡ m) × NoKeyBeyond p g f is_lt nat_cmp m) → MatchOption (option_map v r) (length (map v p.items) ≡ 0) (λ m. ((k : ℕ) × IsSomeAnd (slice_get (map v p.items) k) (λ t. t ≡ m)) × ((k : ℕ) → IfSome (slice_get (map v p.items) k) (λ t. code_of m ≤ code_of t)))
+  picked None h = length-map p.items v ∙ sym p.long ∙ h
   picked (Some m) h =
-      let n = h.1 keeps in (
-        (h.0.0, subst (λ (o : Option Triple). IsSomeAnd o (λ x. x ≡ m)) (at-is p h.0.0) h.0.2),
-        each_of p (λ x. code_of m ≤ code_of x) (λ k. lowest (p.at k) n.0 (n.2 k) n.1),
+      let n = h.1 keeps in
+      let P : Triple → Type 0 = λ t. code_of (v m) ≤ code_of t in (
+        (
+          h.0.0,
+          subst (λ (o : Option Triple). IsSomeAnd o (λ t. t ≡ v m)) (sym (slice_get-map v p.items h.0.0))
+              (is_mapped v m (slice_get p.items h.0.0) (subst (λ (o : Option A). IsSomeAnd o (λ x. x ≡ m)) (at-is p h.0.0) h.0.2)),
+        ),
+        λ k. subst (λ (o : Option Triple). IfSome o P) (sym (slice_get-map v p.items k))
+            (if_mapped v P (slice_get p.items k) (each_of p (λ x. P (v x)) (λ j. lowest (p.at j) n.0 (n.2 j) n.1) k)),
       )
     where
-      lowest : (o : Option Triple) (c : ℕ) → IfSome o (λ x. (j : ℕ) × CalledAt g f x j f × (is_lt (nat_cmp j c) ≡ false)) → CalledAt g f m c f → IfSome o (λ x. code_of m ≤ code_of x)
+      lowest : (o : Option A) (c : ℕ) → IfSome o (λ x. (j : ℕ) × CalledAt g f x j f × (is_lt (nat_cmp j c) ≡ false)) → CalledAt g f m c f → IfSome o (λ x. code_of (v m) ≤ code_of (v x))
       lowest None c h y = tt
       lowest (Some x) c h y =
           let le : c ≤ h.0 = ge_from_not_lt h.0 c h.2 in
