@@ -40,13 +40,13 @@ module _ (ws : List ℕ) (q : Question) where
         }
 
   module _ (s : ℕ) where
-    subject_in : (n a b : ℕ) → n ≡ (q.lowest - code_of (record { subject = s; predicate = 0; object = 0 })) / width → Spans q.pattern.predicate n a b → (u : Triple) → OfSubject s u → Answers (bits ws) q u → (a ≤ u.predicate) × (u.predicate < b)
+    pub subject_in : (n a b : ℕ) → n ≡ (q.lowest - code_of (record { subject = s; predicate = 0; object = 0 })) / width → Spans q.pattern.predicate n a b → (u : Triple) → OfSubject s u → Answers (bits ws) q u → (a ≤ u.predicate) × (u.predicate < b)
     subject_in n a b en sp u r h =
         let i : Inside side u = bits_inside ws u h.0 in
         sp.every u.predicate i.1 (omega arith) h.1.1.1
 
     -- no answer before the row, and the first of the row
-    subject_some : (p : ℕ) (t : Triple) → ((u : Triple) → OfSubject s u → Answers (bits ws) q u → p ≤ u.predicate) → First (OfRow s p) (bits ws) q t → First (OfSubject s) (bits ws) q t
+    pub subject_some : (p : ℕ) (t : Triple) → ((u : Triple) → OfSubject s u → Answers (bits ws) q u → p ≤ u.predicate) → First (OfRow s p) (bits ws) q t → First (OfSubject s) (bits ws) q t
     subject_some p t before f =
         let i : Inside side t = bits_inside ws t f.answers.0 in
         record {
@@ -68,15 +68,15 @@ module _ (ws : List ℕ) (q : Question) where
         (cases_lt u.predicate h.0))
         h.3
 
-  cube_in : (n a b : ℕ) → n ≡ q.lowest / (width * width) → Spans q.pattern.subject n a b → (u : Triple) → Answers (bits ws) q u → (a ≤ u.subject) × (u.subject < b)
+  pub cube_in : (n a b : ℕ) → n ≡ q.lowest / (width * width) → Spans q.pattern.subject n a b → (u : Triple) → Answers (bits ws) q u → (a ≤ u.subject) × (u.subject < b)
   cube_in n a b en sp u h =
       let i : Inside side u = bits_inside ws u h.0 in
       sp.every u.subject i.0 (omega arith) h.1.1.0
 
-  cube_none : ((u : Triple) → Answers (bits ws) q u → ⊥) → Nothing (bits ws) q
+  pub cube_none : ((u : Triple) → Answers (bits ws) q u → ⊥) → Nothing (bits ws) q
   cube_none f u h = ⊎_elim (λ e. absurd (f u (e, h))) (λ e. e) (cases_Bool (bits ws u))
 
-  cube_some : (s : ℕ) (t : Triple) → ((u : Triple) → Answers (bits ws) q u → s ≤ u.subject) → First (OfSubject s) (bits ws) q t → Least (bits ws) q t
+  pub cube_some : (s : ℕ) (t : Triple) → ((u : Triple) → Answers (bits ws) q u → s ≤ u.subject) → First (OfSubject s) (bits ws) q t → Least (bits ws) q t
   cube_some s t before f =
       let i : Inside side t = bits_inside ws t f.answers.0 in
       let least : (u : Triple) → Answers (bits ws) q u → code_of t ≤ code_of u = λ u h.

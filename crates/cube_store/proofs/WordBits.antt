@@ -26,6 +26,10 @@ pub bit_zero : (o : ℕ) → bit_at 0 o ≡ false
 unfolding bit_at
 bit_zero o = ap (λ x. eqb x 1) (bit_at-zero o)
 
+pub bit_shr : (w a j : ℕ) → bit_at (w / 2 ^ a) j ≡ bit_at w (a + j)
+unfolding bit_at
+bit_shr w a j = ap (λ x. eqb (x % 2) 1) (shr-shr w a j)
+
 module _ (w a b : ℕ) (fits : w < 2 ^ 64) where
   abbrev rest : ℕ
   rest = w / 2 ^ a
@@ -36,8 +40,8 @@ module _ (w a b : ℕ) (fits : w < 2 ^ 64) where
   small : rest < 2 ^ 64
   small = omega (arith, div-le_self w (2 ^ a))
 
-  bit_shr : (j : ℕ) → rest / 2 ^ j % 2 ≡ w / 2 ^ (a + j) % 2
-  bit_shr j = ap (λ x. x % 2) (shr-shr w a j)
+  shifted : (j : ℕ) → rest / 2 ^ j % 2 ≡ w / 2 ^ (a + j) % 2
+  shifted j = ap (λ x. x % 2) (shr-shr w a j)
 
   -- no bit between a and the place that the trailing zeros give
   passes : (k : ℕ) → a ≤ k → bit_at w k ≡ true → a + zeros ≤ k
@@ -45,7 +49,7 @@ module _ (w a b : ℕ) (fits : w < 2 ^ 64) where
   passes k l h =
       let m : ℕ = k - a in
       let e : a + m ≡ k = omega arith in
-      let set : rest / 2 ^ m % 2 ≡ 1 = bit_shr m ∙ ap (λ x. w / 2 ^ x % 2) e ∙ eqb-true _ 1 h in
+      let set : rest / 2 ^ m % 2 ≡ 1 = shifted m ∙ ap (λ x. w / 2 ^ x % 2) e ∙ eqb-true _ 1 h in
       ⊎_elim
       (λ none. let unset : rest / 2 ^ m % 2 ≡ 0 = ap (λ x. x / 2 ^ m % 2) none ∙ bit_at-zero m in absurd (omega arith))
       (λ some.
@@ -60,7 +64,7 @@ module _ (w a b : ℕ) (fits : w < 2 ^ 64) where
   is_set l =
       ⊎_elim
       (λ none. let all : zeros ≡ 64 = ap (count_trailing_zeros 64) none ∙ trailing_of_zero 64 in absurd (omega arith))
-      (λ some. eq-eqb _ 1 (sym (bit_shr zeros) ∙ (bit_at-trailing_zeros w64 rest (omega arith) small).1))
+      (λ some. eq-eqb _ 1 (sym (shifted zeros) ∙ (bit_at-trailing_zeros w64 rest (omega arith) small).1))
       (cases_eq rest 0)
 
   -- the place, if it is below b, is the first set bit

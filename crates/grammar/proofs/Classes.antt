@@ -26,7 +26,7 @@ pub in_left : (rs ss : List Range) (c : ℕ) → In rs c → In (rs ++ ss) c
 in_left [] ss c h = cc
 in_left (r ∷ rs) ss c h = grind (arith, or_cases, or_left, or_right, in_left rs ss c)
 
-in_right : (rs ss : List Range) (c : ℕ) → In ss c → In (rs ++ ss) c
+pub in_right : (rs ss : List Range) (c : ℕ) → In ss c → In (rs ++ ss) c
 in_right [] ss c h = h
 in_right (r ∷ rs) ss c h = search (rules, or_right, in_right rs ss c)
 

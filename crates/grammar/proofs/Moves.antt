@@ -67,7 +67,7 @@ module _ (s : State) (bs : List ℕ) (k : ℕ) where
   ends_term : (t : State) (n : Next) → Stands s bs k t → sort t ≡ between → (k < length bs → move t (get_or bs k 0) ≡ move (before n) (get_or bs k 0)) → Ended s bs k n
   ends_term t n h b m = record { state = t; stands = h; over = b; next = λ l. same_step t (before n) (get_or bs k 0) (m l) }
 
-  label-ended : (r : Role) → Stands s bs k (label r) → (k < length bs → inside label_char (get_or bs k 0) ≡ false) → Ended s bs k (follows r)
+  pub label-ended : (r : Role) → Stands s bs k (label r) → (k < length bs → inside label_char (get_or bs k 0) ≡ false) → Ended s bs k (follows r)
   label-ended r h e = ends_term (label r) (follows r) h refl (λ l. grind (arith, nat_tests, e l))
 
   pub tag-hyphen : Tagged s bs k → k < length bs → get_or bs k 0 ≡ 45 → Stands s bs (k + 1) hyphen

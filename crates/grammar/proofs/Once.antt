@@ -17,7 +17,7 @@ last_in (x ∷ y ∷ p) r [] c e = absurd (cc)
 last_in (x ∷ p) r (y ∷ q) c e = ⊎_elim (λ h. inl (cc)) (λ h. inr (h.0, cc h.1)) (last_in p r q c (cc))
 
 module _ (whole ours : Expr) where
-  goes_on_shorter : (p r : List ℕ) → GoesOn whole ours (p ++ r) → GoesOn whole ours p
+  pub goes_on_shorter : (p r : List ℕ) → GoesOn whole ours (p ++ r) → GoesOn whole ours p
   goes_on_shorter p r (begins x) = begins (begins_shorter ours p r x)
   goes_on_shorter p r (slashed q e x y) =
       ⊎_elim

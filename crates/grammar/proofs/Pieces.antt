@@ -24,7 +24,7 @@ pub begins_in : (e : Expr) (u : List ℕ) → Spells e u → First (In (firsts e
 begins_in e u h = rw append-nil at (begin e [] u [] h tt)
 
 -- two parts of a string
-one_split : (a b : Expr) (s t s' t' : List ℕ) → ll1 a (firsts b []) ≡ true
+pub one_split : (a b : Expr) (s t s' t' : List ℕ) → ll1 a (firsts b []) ≡ true
     → Spells a s → Spells b t → Spells a s' → Spells b t' → s ++ t ≡ s' ++ t' → (s ≡ s') × (t ≡ t')
 one_split a b s t s' t' l h k h' k' e = cuts a (firsts b []) l s s' t t' h h' (begins_in b t k) (begins_in b t' k') e
 

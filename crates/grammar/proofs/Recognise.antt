@@ -51,11 +51,11 @@ module _ (bs : List ℕ) (h : Spells (object part) bs) where
       both_ways _ (not-true _ (where_passed (λ s. in_term (sort s)) (λ s. not (nullable (der 46 (left part s)))) refl t i)) (nullable_in (der 46 (left part t)) ((der_is 46 (left part t) []).1 x))
 
   -- a text that halts inside a term is no term
-  not_halted : (k n : ℕ) → Halts in_term (before thing) bs k n → ⊥
+  pub not_halted : (k n : ℕ) → Halts in_term (before thing) bs k n → ⊥
   not_halted k n x = halted k n x.state x.stands x.why
 
   -- nor is one of which a shorter part is a term that has ended
-  not_longer : (k : ℕ) → Ended (before thing) bs k dot → k < length bs → Spells (object part) (take k bs) → ⊥
+  pub not_longer : (k : ℕ) → Ended (before thing) bs k dot → k < length bs → Spells (object part) (take k bs) → ⊥
   not_longer k x l s = ⊎_elim delimited (λ i. goes-dead k x.state x.stands l (ap (left part) (x.next l ∙ no_step (before dot) (get_or bs k 0) (grind (arith, nat_tests, i))))) (cases_Bool (inside delimiter (get_or bs k 0)))
     where
       delimited : inside delimiter (get_or bs k 0) ≡ true → ⊥

@@ -25,7 +25,7 @@ lives none = false
 not_lettered : (s : State) → lives (sort s) ≡ true → lettered (sort s) ≡ false
 not_lettered s h = not-true _ (where_passed (λ t. lives (sort t)) (λ t. not (lettered (sort t))) refl s h)
 
-step-high : (s : State) (c : ℕ) → 128 ≤ c → step s c ≡ dead
+pub step-high : (s : State) (c : ℕ) → 128 ≤ c → step s c ≡ dead
 step-high s c h = grind (arith, nat_tests)
 
 skip_out : (x : Extent) (s : State) (e : Expr) (u : List ℕ) → Spells (skipped x s e) u → Spells e u
@@ -58,11 +58,11 @@ step_in x s c u o h = rw (row_at x s c (left-low x s c u h)) at (skip_in x (step
 pub no-part : (s : State) (c : ℕ) (u : List ℕ) → left part (step s c) ≡ never → Spells (left part s) (c ∷ u) → ⊥
 no-part s c u d h = rw d at (step_in part s c u (λ e. cc) h)
 
-run_out : (x : Extent) (s : State) (p u : List ℕ) → Spells (left x (run s p)) u → Spells (left x s) (p ++ u)
+pub run_out : (x : Extent) (s : State) (p u : List ℕ) → Spells (left x (run s p)) u → Spells (left x s) (p ++ u)
 run_out x s [] u h = h
 run_out x s (c ∷ p) u h = step_out x s c (p ++ u) (run_out x (step s c) p u h)
 
-run-part : (s : State) (p u : List ℕ) → Spells (left part s) (p ++ u) → Spells (left part (run s p)) u
+pub run-part : (s : State) (p u : List ℕ) → Spells (left part s) (p ++ u) → Spells (left part (run s p)) u
 run-part s [] u h = h
 run-part s (c ∷ p) u h = run-part (step s c) p u (step_in part s c (p ++ u) (λ e. cc) h)
 
@@ -77,7 +77,7 @@ live-run : (s : State) (p : List ℕ) → lives (sort (run s p)) ≡ true → li
 live-run s [] h = h
 live-run s (c ∷ p) h = live-step s c (live-run (step s c) p h)
 
-run-full : (s : State) (p u : List ℕ) → lives (sort (run s p)) ≡ true → Spells (left full s) (p ++ u) → Spells (left full (run s p)) u
+pub run-full : (s : State) (p u : List ℕ) → lives (sort (run s p)) ≡ true → Spells (left full s) (p ++ u) → Spells (left full (run s p)) u
 run-full s [] u l h = h
 run-full s (c ∷ p) u l h =
     run-full (step s c) p u l (step_in full s c (p ++ u) (λ _. not_lettered (step s c) (live-run (step s c) p l)) h)

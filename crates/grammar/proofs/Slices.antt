@@ -39,7 +39,7 @@ module _ (bs : List ℕ) where
   pub class_at : (rs : List Range) (k : ℕ) → k < length bs → inside rs (get_or bs k 0) ≡ true → Spells (one rs) (piece bs k (k + 1))
   class_at rs k h e = (get_or bs k 0, piece-one bs k h, e)
 
-  byte_at : (b k : ℕ) → k < length bs → get_or bs k 0 ≡ b → Spells (byte b) (piece bs k (k + 1))
+  pub byte_at : (b k : ℕ) → k < length bs → get_or bs k 0 ≡ b → Spells (byte b) (piece bs k (k + 1))
   byte_at b k h e = class_at (to b b ∷ []) k h (grind (arith, nat_tests))
 
   pub join : (A B : Expr) (a b c : ℕ) → a ≤ b → b ≤ c → Spells A (piece bs a b) → Spells B (piece bs b c) → Spells (A then B) (piece bs a c)

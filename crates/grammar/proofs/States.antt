@@ -49,7 +49,7 @@ every P h s = All-contains (λ s. P s ≡ true) states s (AllPass-from_list_all 
 abbrev pub if : Bool → Bool → Bool
 if a b = not a || b
 
-if_so : (a b : Bool) → if a b ≡ true → a ≡ true → b ≡ true
+pub if_so : (a b : Bool) → if a b ≡ true → a ≡ true → b ≡ true
 if_so true b h k = h
 if_so false b h k = cc
 

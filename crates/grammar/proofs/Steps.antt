@@ -66,7 +66,7 @@ loops_before thing c i = class_step blank (before thing) (before thing) _ c refl
 loops_before dot c i = class_step blank (before dot) (before dot) _ c refl refl i
 
 module _ (s : State) (bs : List ℕ) (rs : List Range) (t : State) (h : Loops rs t) where
-  stays : (n k e : ℕ) → e ≡ k + n → e ≤ length bs → ((j : ℕ) → k ≤ j → j < e → inside rs (get_or bs j 0) ≡ true) → Stands s bs k t → Stands s bs e t
+  pub stays : (n k e : ℕ) → e ≡ k + n → e ≤ length bs → ((j : ℕ) → k ≤ j → j < e → inside rs (get_or bs j 0) ≡ true) → Stands s bs k t → Stands s bs e t
   stays zero k e q l i st = let z : k ≡ e = omega arith in rw z at st
   stays (suc n) k e q l i st =
       stays n (k + 1) e (omega arith) l (λ j a b. i j (omega arith) b) (onward s bs k t t st (omega arith) (h (get_or bs k 0) (i k (omega arith) (omega arith))))

@@ -37,7 +37,7 @@ holds_line base bs at s p o h =
     )
 
 -- a line cut at the ends of its parts
-split-line : (bs : List ℕ) (a b c d e f g : ℕ) → a ≤ b → b ≤ c → c ≤ d → d ≤ e → e ≤ f → f ≤ g → g < length bs → get_or bs g 0 ≡ 46
+pub split-line : (bs : List ℕ) (a b c d e f g : ℕ) → a ≤ b → b ≤ c → c ≤ d → d ≤ e → e ≤ f → f ≤ g → g < length bs → get_or bs g 0 ≡ 46
     → bs ≡ piece bs 0 a ++ (piece bs a b ++ (piece bs b c ++ (piece bs c d ++ (piece bs d e ++ (piece bs e f ++ (piece bs f g ++ 46 ∷ piece bs (g + 1) (length bs)))))))
 split-line bs a b c d e f g i j k l m n o q =
     let z = length bs in
