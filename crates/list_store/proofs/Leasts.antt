@@ -89,26 +89,19 @@ next_of_least ts q xs r e h =
         }
 
 -- a filter by what each item stands for
-pub map-filter : {A : Type 0} (v : A → Triple) (p : Triple → Bool) (xs : List A) → map v (filter (λ x. p (v x)) xs) ≡ filter p (map v xs)
+pub map-filter : {A B : Type 0} (v : A → B) (p : B → Bool) (xs : List A) → map v (filter (λ x. p (v x)) xs) ≡ filter p (map v xs)
 map-filter v p [] = refl
-map-filter v p (x ∷ xs) =
-    let rest = filter (λ y. p (v y)) xs in
-    ⊎_elim
-    (λ y.
-    ap (λ (b : Bool). map v (cond b (x ∷ rest) rest)) y
-    ∙ ap (λ (ts : List Triple). v x ∷ ts) (map-filter v p xs)
-    ∙ ap (λ (b : Bool). cond b (v x ∷ filter p (map v xs)) (filter p (map v xs))) (sym y))
-    (λ n.
-    ap (λ (b : Bool). map v (cond b (x ∷ rest) rest)) n
-    ∙ map-filter v p xs
-    ∙ ap (λ (b : Bool). cond b (v x ∷ filter p (map v xs)) (filter p (map v xs))) (sym n))
-    (cases_Bool (p (v x)))
+map-filter {A} {B} v p (x ∷ xs) = go _ _ (map-filter v p xs) (p (v x))
+  where
+    go : (ys : List A) (zs : List B) → map v ys ≡ zs → (b : Bool) → map v (cond b (x ∷ ys) ys) ≡ cond b (v x ∷ zs) zs
+    go ys zs e true = ap (λ ws. v x ∷ ws) e
+    go ys zs e false = e
 
-is_mapped : {A : Type 0} (v : A → Triple) (m : A) (o : Option A) → IsSomeAnd o (λ x. x ≡ m) → IsSomeAnd (option_map v o) (λ t. t ≡ v m)
+is_mapped : {A B : Type 0} (v : A → B) (m : A) (o : Option A) → IsSomeAnd o (λ x. x ≡ m) → IsSomeAnd (option_map v o) (λ t. t ≡ v m)
 is_mapped v m None h = absurd h
 is_mapped v m (Some x) e = ap v e
 
-if_mapped : {A : Type 0} (v : A → Triple) (P : Triple → Type 0) (o : Option A) → IfSome o (λ x. P (v x)) → IfSome (option_map v o) P
+if_mapped : {A B : Type 0} (v : A → B) (P : B → Type 0) (o : Option A) → IfSome o (λ x. P (v x)) → IfSome (option_map v o) P
 if_mapped v P None h = tt
 if_mapped v P (Some x) h = h
 

@@ -1,9 +1,7 @@
 -- Inner devices, for the contracts of the functions that write a spelling. Assumes nothing.
-use Rattle.std.specs.Prelude.{◌≡◌, ℕ, ◌+◌, ◌<◌, List, ◌∷◌, ◌++◌, length, take, drop, Some, None, Ok, Err, Option, Result, MatchResult, ◌≢◌}
-use Rattle.grammar.specs.Readings.{Kind}
+use Rattle.std.specs.Prelude.{◌≡◌, ℕ, ◌+◌, ◌<◌, List, ◌∷◌, ◌++◌, length, take, drop, Ok, Err, Result, MatchResult, ◌≢◌}
 use Rattle.spelling.specs.declared.canonical.TooLong.{TooLong}
-use Rattle.spelling.specs.Names.{Escape, Name, Denotes, canonical, longest}
-use Rattle.spelling.specs.Answers.{Over}
+use Rattle.spelling.specs.Names.{Escape, Name, canonical, longest}
 
 -- the bytes begin with one that stands for c, itself or as an escape, and the last list follows
 pub data Splits : List ℕ → ℕ → List ℕ → Type 0 where
@@ -18,19 +16,7 @@ with_word xs at word = take at xs ++ (word ++ drop (at + length word) xs)
 abbrev pub WroteName : Name → Result (List ℕ) TooLong → Type 0
 WroteName n r = MatchResult r (λ w. w ≡ canonical n) (λ _. longest < length (canonical n))
 
--- what is written for a token of the kind with these bytes: the canonical spelling of its name, or none where it denotes no
--- name, or a refusal where the spelling is too long
-abbrev pub Wrote : Kind → List ℕ → Result (Option (List ℕ)) TooLong → Type 0
-Wrote k t (Ok (Some w)) = (m : Name) × Denotes k t m × (w ≡ canonical m)
-Wrote k t (Ok None) = (m : Name) → Denotes k t m → ⊥
-Wrote k t (Err e) = Over k t
-
 -- the outcome of a call that writes to a lent writer, with what the writer then holds
 abbrev pub written : Result (Unit {0}) TooLong → List ℕ → Result (List ℕ) TooLong
 written (Ok u) w = Ok w
 written (Err e) w = Err e
-
--- the same for a token that denotes a name
-abbrev pub told : Result (Unit {0}) TooLong → List ℕ → Result (Option (List ℕ)) TooLong
-told (Ok u) w = Ok (Some w)
-told (Err e) w = Err e

@@ -3,7 +3,7 @@ ghost use Rattle.std.specs.Prelude.{◌≡◌, true, false, [], MatchBool};
 ghost use Rattle.ntriples.specs.Answers.{kind_of, bytes_of};
 ghost use Rattle.spelling.specs.Names.{Name, Denotes, LawfulAs, Lawful};
 ghost use Rattle.spelling.specs.Answers.{number, Spelling, ReadsBack, OneSpelling};
-ghost use Rattle.spelling.specs.Writing.{Wrote, told};
+ghost use Rattle.spelling.specs.Writing.{WroteName, written};
 
 use crate::LONGEST;
 use crate::text::{write_iri, write_literal};
@@ -41,7 +41,7 @@ fn has_name(token: Token) -> bool
 // be moved for each token. No label has a name.
 fn spelling(token: Token, writer: &mut Writer) -> Result<(), TooLong>
     requires fresh { writer.old ≡ [] }
-    ensures { (n : Name) → Denotes (kind_of token.entry) (bytes_of token.entry) n → Wrote (kind_of token.entry) (bytes_of token.entry) (told result writer.new) }
+    ensures { (n : Name) → Denotes (kind_of token.entry) (bytes_of token.entry) n → WroteName n (written result writer.new) }
 {
     match token {
         Token::Iri(text) => write_iri(text, writer),
